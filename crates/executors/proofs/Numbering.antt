@@ -1,0 +1,17 @@
+-- Tasks are numbered one by one.
+use Rattle.std.specs.Prelude.{◌≡◌, ℕ, ◌+◌, Bool, true, List, [], ◌∷◌, ◌++◌, if◌then◌else◌}
+use Rattle.std.proofs.Common.{sym, ◌∙◌, ap, append_assoc}
+use Rattle.executors.specs.declared.contexts.TaskContext.{TaskContext}
+use Rattle.executors.specs.declared.tasks.Task.{Task}
+use Rattle.executors.specs.Contexts.{numbered}
+
+pub numbered_next : (done new : List TaskContext) (context : TaskContext) (task : Task) (place : ℕ) (items rest : List Task) (all : List TaskContext) (b : Bool)
+    → b ≡ true → new ≡ (if b then done ++ context ∷ [] else done) → context ≡ record { position = place; task = task } → items ≡ task ∷ rest
+    → done ++ numbered place items ≡ all → new ++ numbered (place + 1) rest ≡ all
+numbered_next done new context task place items rest all b ok grown made front before =
+    let longer : new ≡ done ++ context ∷ [] = grown ∙ ap (λ c. if c then done ++ context ∷ [] else done) ok in
+    ap (λ l. l ++ numbered (place + 1) rest) longer
+    ∙ append_assoc done (context ∷ []) (numbered (place + 1) rest)
+    ∙ ap (λ c. done ++ c ∷ numbered (place + 1) rest) made
+    ∙ ap (λ l. done ++ numbered place l) (sym front)
+    ∙ before

@@ -1,0 +1,26 @@
+//! Scripts, their queues and tasks, and the executors that run a queue's waiting tasks as one batch on a cluster
+//! state.
+#![tactic(auto)]
+
+mod contexts;
+mod ends;
+mod executing;
+mod faults;
+mod kinds;
+mod outcomes;
+mod queues;
+mod refusals;
+mod scripts;
+mod steps;
+mod tasks;
+
+pub use contexts::{Mark, TaskContext, Verdict, number};
+pub use ends::TaskEnd;
+pub use executing::{Executed, Executor};
+pub use faults::{Fault, FaultKind};
+pub use kinds::Kind;
+pub use queues::{Priority, QueueSpec};
+pub use refusals::TaskRefusal;
+pub use scripts::{Script, ScriptNode, ScriptTurn};
+pub use steps::{Ack, Goal, Step};
+pub use tasks::{Task, TaskId};

@@ -1,0 +1,25 @@
+//! The cluster state: nodes, index metadata, settings; the rules of index names and of versions; predicates and
+//! looks; and the state as JSON.
+#![tactic(auto)]
+
+mod cluster_metadata;
+mod indices;
+mod looks;
+mod naming;
+mod nodes;
+mod predicates;
+mod spelling;
+mod states;
+mod versions;
+mod watches;
+
+pub use cluster_metadata::Metadata;
+pub use indices::IndexMetadata;
+pub use looks::{Found, Look};
+pub use naming::{InvalidName, check_index_name};
+pub use nodes::NodeInfo;
+pub use predicates::Pred;
+pub use spelling::to_json;
+pub use states::ClusterState;
+pub use versions::{Next, next_state};
+pub use watches::WatchId;
