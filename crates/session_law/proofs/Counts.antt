@@ -1,0 +1,170 @@
+-- How high the counters of a world can stand: at most one above the tasks and the batches that led to it. And a kept
+-- book holds no more tasks than its script has steps.
+use Rattle.std.specs.Prelude.{◌≡◌, ℕ, ◌+◌, ◌≤◌, Bool, true, false, not, ◌&&◌, List, [], ◌∷◌, ◌++◌, length, map, fold, filter_map, Option, Some, None, is_some, refl, if◌then◌else◌}
+use Rattle.std.proofs.Common.{sym, subst, arith}
+use Rattle.std.specs.List.{AllByRecursion, cons_option}
+use Rattle.std.proofs.lemmas.List.{length-append, length-map}
+use Rattle.plain_data.specs.Pairs.{lookup}
+use Rattle.meta_state.specs.declared.states.ClusterState.{ClusterState}
+use Rattle.meta_state.specs.declared.versions.Next.TheVariants.{Same, Changed}
+use Rattle.meta_state.specs.Exact.{state_eq, metadata_eq}
+use Rattle.meta_state.specs.States.{zero_state}
+use Rattle.meta_state.specs.Versions.{content_of, contents_of, metadata_version, stamped}
+use Rattle.executors.specs.declared.contexts.Mark.{Mark}
+use Rattle.executors.specs.declared.executing.Executed.{Executed}
+use Rattle.executors.specs.declared.executing.Executed.TheVariants.{Made, Failed}
+use Rattle.executors.specs.declared.kinds.Kind.{Kind}
+use Rattle.executors.specs.declared.scripts.Script.{Script}
+use Rattle.executors.specs.declared.scripts.ScriptNode.{ScriptNode}
+use Rattle.executors.specs.declared.tasks.Task.{Task}
+use Rattle.executors.specs.Contexts.{numbered}
+use Rattle.executors.specs.Executions.{executed}
+use Rattle.executors.specs.Kinds.{needs_master}
+use Rattle.executors.proofs.Counts.{IsCountedState, state_later, IsCountedResult, executed_counted}
+use Rattle.session_law.specs.declared.batches.Batch.{Batch}
+use Rattle.session_law.specs.declared.worlds.NodeWorld.{NodeWorld}
+use Rattle.session_law.specs.declared.worlds.Reach.{Reach}
+use Rattle.session_law.specs.declared.worlds.Stepped.{Stepped}
+use Rattle.session_law.specs.declared.worlds.World.{World}
+use Rattle.session_law.specs.Histories.{after, tasks_at, task_at, kind_named, commit_of, world_after, placed_of, placed_in, Placed}
+use Rattle.session_law.specs.Publications.{cut_by, reach_all, reach_more, reach_none, passed_over, missed, reached, is_sent_diff, does_commit}
+use Rattle.session_law.specs.Steps.{batch_step, executed_step, next_step, commit_step, drop_step}
+use Rattle.session_law.specs.Worlds.{first_world, first_node, first_state_of}
+
+-- ---- a world after n tasks and p batches
+
+pub record IsCounted (n p : ℕ) (world : World) : Type 0 where
+  pub id : world.state.id ≤ p + 1
+  pub version : world.state.version ≤ p + 1
+  pub metadata_version : world.state.metadata.version ≤ p + 1
+  pub state : IsCountedState n world.state
+  pub proposals : world.proposals ≤ p
+  pub sent : AllByRecursion (λ node. node.sent ≤ p) world.nodes
+
+sent_later : (p q : ℕ) (nodes : List NodeWorld) → p ≤ q → AllByRecursion (λ node. node.sent ≤ p) nodes → AllByRecursion (λ node. node.sent ≤ q) nodes
+sent_later p q [] h c = tt
+sent_later p q (node ∷ nodes) h c = ((let x = c.0 in omega arith), sent_later p q nodes h c.1)
+
+sent_push : (p : ℕ) (nodes : List NodeWorld) (node : NodeWorld) → AllByRecursion (λ node. node.sent ≤ p) nodes → node.sent ≤ p → AllByRecursion (λ node. node.sent ≤ p) (nodes ++ node ∷ [])
+sent_push p [] node c h = (h, tt)
+sent_push p (first ∷ nodes) node c h = (c.0, sent_push p nodes node c.1 h)
+
+later : (n m p q : ℕ) (world : World) → n ≤ m → p ≤ q → IsCounted n p world → IsCounted m q world
+later n m p q world h k c = record {
+    id = let x = c.id in omega arith; version = let x = c.version in omega arith; metadata_version = let x = c.metadata_version in omega arith;
+    state = state_later n m world.state h c.state; proposals = let x = c.proposals in omega arith;
+    sent = sent_later p q world.nodes k c.sent
+  }
+
+more_sent : (cut : List ℕ → ℕ → Bool) (prev new : ClusterState) (p : ℕ) (reach : Reach) (name : List ℕ) (has : NodeWorld) (in_state away by_diff : Bool)
+    → AllByRecursion (λ node. node.sent ≤ p + 1) reach.nodes → has.sent ≤ p
+    → AllByRecursion (λ node. node.sent ≤ p + 1) (if not in_state then passed_over reach has else (if away then missed reach has else reached new reach name has by_diff)).nodes
+more_sent cut prev new p reach name has false away by_diff c h = sent_push (p + 1) reach.nodes has c (omega arith)
+more_sent cut prev new p reach name has true true by_diff c h = sent_push (p + 1) reach.nodes (record has { sent = has.sent + 1 }) c (omega arith)
+more_sent cut prev new p reach name has true false by_diff c h = sent_push (p + 1) reach.nodes (record { accepted = new; sent = has.sent + 1 }) c (omega arith)
+
+reach_sent : (cut : List ℕ → ℕ → Bool) (prev new : ClusterState) (p : ℕ) (reach : Reach) (nodes : List ScriptNode) (have : List NodeWorld)
+    → AllByRecursion (λ node. node.sent ≤ p + 1) reach.nodes → AllByRecursion (λ node. node.sent ≤ p) have
+    → AllByRecursion (λ node. node.sent ≤ p + 1) (reach_all cut prev new reach nodes have).nodes
+unfolding reach_all
+reach_sent cut prev new p reach [] have c h = c
+reach_sent cut prev new p reach (node ∷ nodes) [] c h = c
+reach_sent cut prev new p reach (node ∷ nodes) (has ∷ more) c h =
+    reach_sent cut prev new p (reach_more cut prev new reach node.name has) nodes more
+      (more_sent cut prev new p reach node.name has (is_some (lookup node.name new.nodes)) (cut node.name (has.sent + 1)) (is_sent_diff prev node.name has) c h.0) h.1
+
+metadata_rises : (b : Bool) (v : ℕ) → (if b then v else v + 1) ≤ v + 1
+metadata_rises true v = omega arith
+metadata_rises false v = omega arith
+
+publish_counted : (commits : Bool) (n m p : ℕ) (world : World) (kind : Kind) (count commit : ℕ) (made : ClusterState) (marks : List Mark) (reach : Reach)
+    → IsCounted n p world → IsCountedState m made → n ≤ m → AllByRecursion (λ node. node.sent ≤ p + 1) reach.nodes
+    → let new = stamped made (world.proposals + 2) (world.state.version + 1) (metadata_version world.state.metadata made.metadata) in
+      IsCounted m (p + 1) (if commits then commit_step world kind commit new marks reach else drop_step world count new reach).world
+publish_counted true n m p world kind count commit made marks reach c s h r = record {
+    id = let x = c.proposals in omega arith; version = let x = c.version in omega arith;
+    metadata_version = let x = c.metadata_version in let y = metadata_rises (metadata_eq (contents_of world.state.metadata) (contents_of made.metadata)) world.state.metadata.version in omega arith;
+    state = record { term = s.term; created = s.created; indices = s.indices };
+    proposals = let x = c.proposals in omega arith; sent = r
+  }
+publish_counted false n m p world kind count commit made marks reach c s h r = record {
+    id = let x = c.id in omega arith; version = let x = c.version in omega arith; metadata_version = let x = c.metadata_version in omega arith;
+    state = state_later n m world.state h c.state; proposals = let x = c.proposals in omega arith; sent = r
+  }
+
+next_counted : (same : Bool) (cut : List ℕ → ℕ → Bool) (nodes : List ScriptNode) (n m p : ℕ) (world : World) (kind : Kind) (count commit : ℕ) (made : ClusterState) (marks : List Mark)
+    → IsCounted n p world → IsCountedState m made → n ≤ m
+    → IsCounted m (p + 1) (next_step cut nodes world kind count commit marks
+        (if same then Same else Changed (stamped made (world.proposals + 2) (world.state.version + 1) (metadata_version world.state.metadata made.metadata)))).world
+next_counted true cut nodes n m p world kind count commit made marks c s h = later n m p (p + 1) world h (omega arith) c
+next_counted false cut nodes n m p world kind count commit made marks c s h =
+    let new = stamped made (world.proposals + 2) (world.state.version + 1) (metadata_version world.state.metadata made.metadata) in
+    let reach = reach_all cut world.state new reach_none nodes world.nodes in
+    publish_counted (does_commit new reach) n m p world kind count commit made marks reach c s h
+      (reach_sent cut world.state new p reach_none nodes world.nodes tt c.sent)
+
+office_counted : (refused : Bool) (n m p : ℕ) (world : World) (none some : Stepped) → none.world ≡ world → IsCounted n p world → n ≤ m → IsCounted m (p + 1) some.world
+    → IsCounted m (p + 1) (if refused then none else some).world
+office_counted true n m p world none some e c h s = subst (IsCounted m (p + 1)) (sym e) (later n m p (p + 1) world h (omega arith) c)
+office_counted false n m p world none some e c h s = s
+
+executed_step_counted : (cut : List ℕ → ℕ → Bool) (nodes : List ScriptNode) (n m p : ℕ) (world : World) (kind : Kind) (count commit : ℕ) (made : Executed)
+    → IsCounted n p world → n ≤ m → IsCountedResult m made → IsCounted m (p + 1) (executed_step cut nodes world kind count commit made).world
+executed_step_counted cut nodes n m p world kind count commit (Failed position refusal) c h s = later n m p (p + 1) world h (omega arith) c
+executed_step_counted cut nodes n m p world kind count commit (Made state marks) c h s =
+    next_counted (state_eq (content_of world.state) (content_of state)) cut nodes n m p world kind count commit state marks c s h
+
+pub step_counted : (cut : List ℕ → ℕ → Bool) (nodes : List ScriptNode) (n p : ℕ) (world : World) (kind : Kind) (tasks : List Task) (commit : ℕ)
+    → IsCounted n p world → IsCounted (n + length tasks) (p + 1) (batch_step cut nodes world kind tasks commit).world
+unfolding batch_step
+step_counted cut nodes n p world kind tasks commit c =
+    office_counted (needs_master kind && not world.in_office) n (n + length tasks) p world _ _ refl c (omega arith)
+      (executed_step_counted cut nodes n (n + length tasks) p world kind (length tasks) commit (executed kind world.state (numbered 0 tasks)) c (omega arith)
+        (executed_counted n kind world.state tasks c.state))
+
+-- ---- a history
+
+option_shorter : {Y : Type 0} (o : Option Y) (ys : List Y) → length (cons_option o ys) ≤ length ys + 1
+option_shorter None ys = omega arith
+option_shorter (Some y) ys = omega arith
+
+filter_map_shorter : {X Y : Type 0} (h : X → Option Y) (xs : List X) → length (filter_map h xs) ≤ length xs
+filter_map_shorter h [] = omega arith
+filter_map_shorter h (x ∷ xs) = let one = option_shorter (h x) (filter_map h xs) in let rest = filter_map_shorter h xs in omega arith
+
+-- a batch counts for its entries
+batch_counted : (script : Script) (n p : ℕ) (world : World) (batch : Batch) → IsCounted n p world
+    → IsCounted (n + length batch.entries) (p + 1) (after script world batch)
+batch_counted script n p world batch c =
+    let tasks = tasks_at script batch.entries in
+    let shorter = filter_map_shorter (task_at script) batch.entries in
+    later (n + length tasks) (n + length batch.entries) (p + 1) (p + 1) (after script world batch) (omega arith) (omega arith)
+      (step_counted (cut_by script.faults) script.nodes n p world (kind_named script.queues batch.queue) tasks (commit_of batch.result) c)
+
+placed_count : (batch : Batch) (more : List Placed) → length (placed_in batch ++ more) ≡ length batch.entries + length more
+placed_count batch more = simp (length-append, length-map) refl
+
+history_counted : (script : Script) (batches : List Batch) (n p : ℕ) (world : World) → IsCounted n p world
+    → IsCounted (n + length (placed_of batches)) (p + length batches) (fold (after script) world batches)
+history_counted script [] n p world c = later n (n + 0) p (p + 0) world (omega arith) (omega arith) c
+history_counted script (batch ∷ batches) n p world c =
+    let count = placed_count batch (placed_of batches) in
+    later (n + length batch.entries + length (placed_of batches)) (n + length (placed_of (batch ∷ batches))) (p + 1 + length batches) (p + length (batch ∷ batches))
+      (fold (after script) (after script world batch) batches) (omega arith) (omega arith)
+      (history_counted script batches (n + length batch.entries) (p + 1) (after script world batch) (batch_counted script n p world batch c))
+
+first_sent : (first zero : ClusterState) (nodes : List ScriptNode) → AllByRecursion (λ node. node.sent ≤ 0) (map (first_node first zero) nodes)
+first_sent first zero [] = tt
+first_sent first zero (node ∷ nodes) = (omega arith, first_sent first zero nodes)
+
+-- the world after batches, by how many tasks and batches they are
+pub world_counted : (script : Script) (batches : List Batch) → IsCounted (length (placed_of batches)) (length batches) (world_after script batches)
+unfolding first_world
+world_counted script batches =
+    let first : IsCounted 0 0 (first_world script) = record {
+      id = omega arith; version = omega arith; metadata_version = omega arith;
+      state = record { term = omega arith; created = omega arith; indices = tt };
+      proposals = omega arith; sent = first_sent (first_state_of script) (zero_state script.cluster) script.nodes
+    } in
+    later (0 + length (placed_of batches)) (length (placed_of batches)) (0 + length batches) (length batches) (world_after script batches) (omega arith) (omega arith)
+      (history_counted script batches 0 0 (first_world script) first)

@@ -1,0 +1,120 @@
+-- A history: the batches that ran, the world that they lead to, and when a master's book of them is kept.
+use Rattle.std.specs.Prelude.{◌≡◌, ℕ, ◌+◌, ◌<◌, Bool, true, false, ◌&&◌, ◌==◌, List, [], ◌∷◌, map, flat_map, filter_map, fold, Option, Some, None, option_and_then, slice_get, bytes_eq, IsTrue, length, if◌then◌else◌}
+use Rattle.std.specs.List.{AllByRecursion}
+use Rattle.executors.specs.declared.kinds.Kind.{Kind}
+use Rattle.executors.specs.declared.kinds.Kind.TheVariants as kind
+use Rattle.executors.specs.declared.queues.QueueSpec.{QueueSpec}
+use Rattle.executors.specs.declared.scripts.Script.{Script}
+use Rattle.executors.specs.declared.steps.Step.{Step}
+use Rattle.executors.specs.declared.steps.Step.TheVariants.{Submit}
+use Rattle.executors.specs.declared.tasks.Task.{Task}
+use Rattle.session_law.specs.declared.batches.Batch.{Batch}
+use Rattle.session_law.specs.declared.batches.BatchResult.{BatchResult}
+use Rattle.session_law.specs.declared.batches.BatchResult.TheVariants.{Published}
+use Rattle.session_law.specs.declared.batches.Entry.{Entry}
+use Rattle.session_law.specs.declared.worlds.Stepped.{Stepped}
+use Rattle.session_law.specs.declared.worlds.World.{World}
+use Rattle.session_law.specs.Publications.{cut_by}
+use Rattle.session_law.specs.Steps.{batch_step}
+use Rattle.session_law.specs.Worlds.{first_world}
+
+-- ---- what a script says of an entry and of a queue
+
+abbrev pub step_at : Script → ℕ → ℕ → Option Step
+step_at script client step = option_and_then (λ steps. slice_get steps step) (slice_get script.clients client)
+
+abbrev pub submitted : Step → Option Task
+submitted (Submit queue task timeout ack) = Some task
+submitted _ = None
+
+abbrev pub task_at : Script → Entry → Option Task
+task_at script entry = option_and_then submitted (step_at script entry.client entry.step)
+
+-- the tasks of entries, in order
+abbrev pub tasks_at : Script → List Entry → List Task
+tasks_at script entries = filter_map (task_at script) entries
+
+-- the executor of the queue of a name; no other name is ever asked for
+abbrev pub kind_named : List QueueSpec → List ℕ → Kind
+kind_named [] name = kind.CreateIndex
+kind_named (queue ∷ queues) name = if bytes_eq name queue.name then queue.executor else kind_named queues name
+
+-- ---- the world after batches
+
+-- the reading at which a batch committed
+abbrev pub commit_of : BatchResult → ℕ
+commit_of (Published version id commit diffs fulls accepted) = commit
+commit_of _ = 0
+
+-- what comes of a batch on a world
+abbrev pub stepped : Script → World → Batch → Stepped
+stepped script world batch =
+    batch_step (cut_by script.faults) script.nodes world (kind_named script.queues batch.queue) (tasks_at script batch.entries) (commit_of batch.result)
+
+abbrev pub after : Script → World → Batch → World
+after script world batch = (stepped script world batch).world
+
+abbrev pub world_after : Script → List Batch → World
+world_after script batches = fold (after script) (first_world script) batches
+
+-- ---- a kept book
+
+-- each batch has the result that it has on the world before it
+abbrev pub AreResults : Script → World → List Batch → Type 0
+AreResults script world [] = Unit {0}
+AreResults script world (batch ∷ batches) =
+    (batch.result ≡ (stepped script world batch).result) × AreResults script (after script world batch) batches
+
+-- an entry with the name of its batch's queue
+pub record Placed : Type 0 where
+  pub queue : List ℕ
+  pub entry : Entry
+
+abbrev pub placed_in : Batch → List Placed
+placed_in batch = map (λ e. record { queue = batch.queue; entry = e }) batch.entries
+
+abbrev pub placed_of : List Batch → List Placed
+placed_of batches = flat_map placed_in batches
+
+abbrev pub is_named : List ℕ → Option QueueSpec → Bool
+is_named name None = false
+is_named name (Some queue) = bytes_eq queue.name name
+
+-- whether an entry is a submit step of the script to the queue of its batch
+abbrev pub is_own_step : Script → List ℕ → Option Step → Bool
+is_own_step script name (Some (Submit queue task timeout ack)) = is_named name (slice_get script.queues queue)
+is_own_step script name _ = false
+
+abbrev pub IsOwn : Script → Placed → Type 0
+IsOwn script placed = IsTrue (is_own_step script placed.queue (step_at script placed.entry.client placed.entry.step))
+
+abbrev pub is_same_task : Entry → Entry → Bool
+is_same_task a b = (a.client == b.client) && (a.step == b.step)
+
+-- an earlier and a later entry: no task stands twice, and in one queue the steps of one client rise
+pub record IsApart (a b : Placed) : Type 0 where
+  pub other : is_same_task a.entry b.entry ≡ false
+  pub rises : bytes_eq a.queue b.queue ≡ true → a.entry.client ≡ b.entry.client → a.entry.step < b.entry.step
+
+-- what an entry's client had awaited ran before the entry's own batch, by the batches' numbers
+abbrev pub AreSeen : ℕ → List Batch → Type 0
+AreSeen number [] = Unit {0}
+AreSeen number (batch ∷ batches) = AllByRecursion (λ e. e.seen < number) batch.entries × AreSeen (number + 1) batches
+
+-- each entry is apart from every later one
+abbrev pub AreApart : List Placed → Type 0
+AreApart [] = Unit {0}
+AreApart (placed ∷ more) = AllByRecursion (IsApart placed) more × AreApart more
+
+-- the batches are a serial history of the script
+pub record IsSerial (script : Script) (batches : List Batch) : Type 0 where
+  pub results : AreResults script (first_world script) batches
+  pub filled : AllByRecursion (λ b. 0 < length b.entries) batches
+  pub own : AllByRecursion (IsOwn script) (placed_of batches)
+  pub apart : AreApart (placed_of batches)
+  pub seen : AreSeen 1 batches
+
+-- a book is kept where its batches are a serial history and its world is the one after them
+pub record IsKept (script : Script) (batches : List Batch) (end : World) : Type 0 where
+  pub serial : IsSerial script batches
+  pub world : end ≡ world_after script batches
