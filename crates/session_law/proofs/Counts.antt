@@ -128,7 +128,7 @@ option_shorter : {Y : Type 0} (o : Option Y) (ys : List Y) → length (cons_opti
 option_shorter None ys = omega arith
 option_shorter (Some y) ys = omega arith
 
-filter_map_shorter : {X Y : Type 0} (h : X → Option Y) (xs : List X) → length (filter_map h xs) ≤ length xs
+pub filter_map_shorter : {X Y : Type 0} (h : X → Option Y) (xs : List X) → length (filter_map h xs) ≤ length xs
 filter_map_shorter h [] = omega arith
 filter_map_shorter h (x ∷ xs) = let one = option_shorter (h x) (filter_map h xs) in let rest = filter_map_shorter h xs in omega arith
 
@@ -141,7 +141,7 @@ batch_counted script n p world batch c =
     later (n + length tasks) (n + length batch.entries) (p + 1) (p + 1) (after script world batch) (omega arith) (omega arith)
       (step_counted (cut_by script.faults) script.nodes n p world (kind_named script.queues batch.queue) tasks (commit_of batch.result) c)
 
-placed_count : (batch : Batch) (more : List Placed) → length (placed_in batch ++ more) ≡ length batch.entries + length more
+pub placed_count : (batch : Batch) (more : List Placed) → length (placed_in batch ++ more) ≡ length batch.entries + length more
 placed_count batch more = simp (length-append, length-map) refl
 
 history_counted : (script : Script) (batches : List Batch) (n p : ℕ) (world : World) → IsCounted n p world

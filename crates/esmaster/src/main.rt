@@ -1,0 +1,46 @@
+//! The program: it reads a script, performs it, and writes the report of what came of it.
+#![tactic(auto)]
+
+mod answers;
+mod commands;
+mod exits;
+mod replays;
+#[cfg(test)]
+mod tests;
+
+use commands::esmaster;
+use edge_io::{MillisClock, OpenGate, StdSink, StdSource};
+use exits::Exit;
+use std::process::ExitCode;
+use std::{env, io};
+
+fn main(rt: HostRuntime) -> ExitCode {
+    let exit = match words(&rt) {
+        Ok(words) => {
+            let mut source = StdSource::new(rt.reader());
+            let mut sink = StdSink::new(io::writer(&rt));
+            let clock = MillisClock::new(&rt);
+            esmaster(
+                &rt,
+                rt.alloc(),
+                words.as_slice(),
+                &mut source,
+                &mut sink,
+                &clock,
+                &OpenGate,
+            )
+        }
+        Err(error) if error.kind() == io::ErrorKind::OutOfMemory => Exit::OutOfMemory,
+        Err(_) => Exit::Usage,
+    };
+    ExitCode::from(exit.status())
+}
+
+/// The words after the program's name. A word that isn't text is an error.
+fn words<R: Env + AllocGlobal>(rt: &R) -> io::Result<Vec<String>> {
+    let mut words = Vec::new(rt.alloc());
+    for word in env::args(rt)?.skip(1) {
+        words.push(word)?;
+    }
+    Ok(words)
+}

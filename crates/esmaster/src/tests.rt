@@ -1,0 +1,168 @@
+use crate::commands::esmaster;
+use crate::exits::Exit;
+use crate::replays::replay;
+use edge_io::{Frozen, MemSink, MemSource, OpenGate};
+use plain_data::OutOfMemory;
+use std::alloc::Global;
+use std::test::Fail;
+
+const QUEUES: &str = "[{\"name\":\"make\",\"executor\":\"create_index\",\"priority\":\"NORMAL\"},{\"name\":\"drop\",\"executor\":\"delete_index\",\"priority\":\"NORMAL\"},{\"name\":\"conf\",\"executor\":\"index_settings\",\"priority\":\"NORMAL\"},{\"name\":\"gate\",\"executor\":\"open_close\",\"priority\":\"NORMAL\"},{\"name\":\"alias\",\"executor\":\"aliases\",\"priority\":\"NORMAL\"},{\"name\":\"atom\",\"executor\":\"aliases_atomic\",\"priority\":\"NORMAL\"},{\"name\":\"glob\",\"executor\":\"cluster_settings\",\"priority\":\"NORMAL\"},{\"name\":\"node\",\"executor\":\"nodes\",\"priority\":\"IMMEDIATE\"},{\"name\":\"vote\",\"executor\":\"reelect\",\"priority\":\"IMMEDIATE\"},{\"name\":\"slow\",\"executor\":\"cluster_settings\",\"priority\":\"LANGUID\"},{\"name\":\"fast\",\"executor\":\"cluster_settings\",\"priority\":\"IMMEDIATE\"}]";
+
+const FIRST_REPORT: &str = "report 1\nstate {\"cluster\":\"demo\",\"id\":1,\"master\":\"n0\",\"metadata\":{\"created\":0,\"indices\":{},\"settings\":{},\"version\":1},\"nodes\":{\"n0\":{\"eligible\":true}},\"term\":1,\"version\":1}\n";
+
+const CREATED_REPORT: &str = "report 1\nbatch 1 queue make at 0 tasks 0.0/0 published 2 id 2 commit 0 diffs 1 fulls 0 accepted 1\ntask 0.0 at 0 ok 2\nstate {\"cluster\":\"demo\",\"id\":2,\"master\":\"n0\",\"metadata\":{\"created\":1,\"indices\":{\"logs-1\":{\"aliases\":[],\"aliases_version\":1,\"id\":1,\"open\":true,\"replicas\":1,\"settings_version\":1,\"shards\":1,\"version\":1}},\"settings\":{},\"version\":2},\"nodes\":{\"n0\":{\"eligible\":true}},\"term\":1,\"version\":2}\n";
+
+/// The base script with these clients.
+fn script(alloc: Global, clients: &str) -> Result<Vec<u8>, OutOfMemory> {
+    let queues = QUEUES;
+    let text = format!(in alloc; "{{\"version\":1,\"cluster\":\"demo\",\"nodes\":[{{\"name\":\"n0\"}}],\"queues\":{queues},\"clients\":{clients}}}")?;
+    Ok(Vec::from_slice(alloc, text.as_bytes())?)
+}
+
+/// How the replay of these bytes ends, and what it writes into ample room.
+fn replayed(alloc: Global, bytes: Vec<u8>) -> Result<(Exit, Vec<u8>), OutOfMemory> {
+    let mut source = MemSource::new(bytes, Vec::new(alloc));
+    let mut sink = MemSink::with_room(alloc, 4096, Vec::new(alloc))?;
+    let exit = replay(alloc, &mut source, &mut sink);
+    Ok((exit, Vec::from_slice(alloc, sink.written())?))
+}
+
+#[test]
+fn a_script_has_its_report_or_its_refusal(rt: HostRuntime) -> Result<(), Fail> {
+    let alloc = rt.alloc();
+    let cases = [
+        ("[]", Exit::Done, FIRST_REPORT),
+        ("[[]]", Exit::Done, FIRST_REPORT),
+        (
+            "[[{\"do\":\"submit\",\"queue\":\"make\",\"task\":{\"index\":\"logs-1\"}}]]",
+            Exit::Done,
+            CREATED_REPORT,
+        ),
+        (
+            "[[{\"do\":\"submit\",\"queue\":\"none\",\"task\":{\"index\":\"a\"}}]]",
+            Exit::ScriptRefused,
+            "refused bad_shape $ not_built\n",
+        ),
+        (
+            "[[],[]]",
+            Exit::ScriptRefused,
+            "refused bad_shape $ not_built\n",
+        ),
+        ("[[", Exit::ScriptRefused, "refused not_json\n"),
+    ];
+    for (clients, exit, text) in cases {
+        let (ended, written) = replayed(alloc, script(alloc, clients)?)?;
+        assert_eq!(rt; ended, exit, "of {clients}");
+        assert_eq!(rt; written.as_slice(), text.as_bytes(), "of {clients}");
+    }
+    Ok(())
+}
+
+#[test]
+fn input_that_is_no_json_is_refused(rt: HostRuntime) -> Result<(), Fail> {
+    let alloc = rt.alloc();
+    for text in ["", "{\"version\":1,\"cluste", "\u{0}"] {
+        let (ended, written) = replayed(alloc, Vec::from_slice(alloc, text.as_bytes())?)?;
+        assert_eq!(rt; ended, Exit::ScriptRefused);
+        assert_eq!(rt; written.as_slice(), "refused not_json\n".as_bytes());
+    }
+    Ok(())
+}
+
+#[test]
+fn an_index_name_has_at_most_255_bytes(rt: HostRuntime) -> Result<(), Fail> {
+    let alloc = rt.alloc();
+    for (count, line) in [
+        (255usize, "\ntask 0.0 at 0 ok 2\n"),
+        (256usize, " unchanged 1\ntask 0.0 at 0 refused invalid_name\n"),
+    ] {
+        let mut name = String::new(alloc);
+        for _ in 0..count {
+            name.push_str("a")?;
+        }
+        let clients = format!(in alloc; "[[{{\"do\":\"submit\",\"queue\":\"make\",\"task\":{{\"index\":\"{name}\"}}}}]]")?;
+        let (ended, written) = replayed(alloc, script(alloc, clients.as_str())?)?;
+        assert_eq!(rt; ended, Exit::Done);
+        let text = String::from_utf8(written).map_err(|_| "no text")?;
+        assert!(rt; text.as_str().contains(line), "of {count} bytes: {text}");
+    }
+    Ok(())
+}
+
+#[test]
+fn one_byte_too_many_is_too_long(rt: HostRuntime) -> Result<(), Fail> {
+    let alloc = rt.alloc();
+    let (ended, written) = replayed(alloc, vec![in alloc; b' '; 16_777_217]?)?;
+    assert_eq!(rt; ended, Exit::TooLong);
+    assert_eq!(rt; written.len(), 0);
+    let (ended, _) = replayed(alloc, vec![in alloc; b' '; 16_777_216]?)?;
+    assert_eq!(rt; ended, Exit::ScriptRefused);
+    Ok(())
+}
+
+#[test]
+fn a_failing_edge_is_told(rt: HostRuntime) -> Result<(), Fail> {
+    let alloc = rt.alloc();
+    let mut source = MemSource::new(script(alloc, "[]")?, Vec::from_slice(alloc, &[0])?);
+    let mut sink = MemSink::with_room(alloc, 4096, Vec::new(alloc))?;
+    assert_eq!(rt; replay(alloc, &mut source, &mut sink), Exit::ReadFault);
+    assert_eq!(rt; sink.written().len(), 0);
+
+    let room = FIRST_REPORT.len() - 9;
+    let mut source = MemSource::new(script(alloc, "[]")?, Vec::new(alloc));
+    let mut sink = MemSink::with_room(alloc, room, Vec::new(alloc))?;
+    assert_eq!(rt; replay(alloc, &mut source, &mut sink), Exit::WriteFault);
+    assert_eq!(rt; sink.written().len(), room);
+    assert!(rt; FIRST_REPORT.as_bytes().starts_with(sink.written()));
+    Ok(())
+}
+
+#[test]
+fn other_words_are_no_command(rt: HostRuntime) -> Result<(), Fail> {
+    let alloc = rt.alloc();
+    for (words, exit) in [
+        ("", Exit::Usage),
+        ("serve", Exit::Usage),
+        ("load 0", Exit::Usage),
+        ("replay now", Exit::Usage),
+        ("--help", Exit::Usage),
+        ("replay", Exit::Done),
+    ] {
+        let mut list = Vec::new(alloc);
+        for word in words.split_whitespace() {
+            list.push(String::from_str(alloc, word)?)?;
+        }
+        let mut source = MemSource::new(script(alloc, "[]")?, Vec::new(alloc));
+        let mut sink = MemSink::with_room(alloc, 4096, Vec::new(alloc))?;
+        let ended = esmaster(
+            &rt,
+            alloc,
+            list.as_slice(),
+            &mut source,
+            &mut sink,
+            &Frozen::new(7),
+            &OpenGate,
+        );
+        assert_eq!(rt; ended, exit, "of {words}");
+        assert_eq!(rt; sink.written().is_empty(), exit == Exit::Usage, "of {words}");
+    }
+    Ok(())
+}
+
+#[test]
+fn each_end_has_its_status(rt: HostRuntime) {
+    let ends = [
+        Exit::Done,
+        Exit::Usage,
+        Exit::ScriptRefused,
+        Exit::ReadFault,
+        Exit::WriteFault,
+        Exit::OutOfMemory,
+        Exit::TooLong,
+    ];
+    let mut status: u8 = 0;
+    for end in ends {
+        assert_eq!(rt; end.status(), status);
+        status = status.wrapping_add(1);
+    }
+}

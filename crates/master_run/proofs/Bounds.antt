@@ -1,0 +1,149 @@
+-- A kept book holds no more entries than its script has steps, so that every counter of its world can rise.
+use Rattle.std.specs.Prelude.{◌≡◌, ℕ, zero, suc, ◌+◌, ◌*◌, ◌<◌, ◌≤◌, ◌^◌, Bool, true, false, ◌&&◌, ◌||◌, ◌==◌, List, [], ◌∷◌, ◌++◌, length, map, Option, Some, None, option_and_then, slice_get, nat_le, refl}
+use Rattle.std.proofs.Common.{sym, ◌∙◌, ap, subst, arith}
+use Rattle.std.proofs.Math.Bool.{true≢false}
+use Rattle.std.specs.Cmp.{unsigned_Decides}
+use Rattle.std.specs.List.{AllByRecursion, IsDistinct, list_all, list_any}
+use Rattle.std.proofs.lemmas.Bool.{leb-true}
+use Rattle.std.proofs.lemmas.Map.Steps.{length-le_from_distinct_below}
+use Rattle.std.proofs.lemmas.Option.{slice_get_within}
+use Rattle.std.proofs.lemmas.List.{length-append, length-map}
+use Rattle.meta_state.specs.declared.indices.IndexMetadata.{IndexMetadata}
+use Rattle.meta_state.specs.States.{AreRoomy}
+use Rattle.executors.specs.declared.scripts.Script.{Script}
+use Rattle.executors.specs.declared.steps.Step.{Step}
+use Rattle.executors.specs.Scripts.{IsScript, is_client, are_steps}
+use Rattle.executors.proofs.Counts.{AreCounted}
+use Rattle.session_law.specs.declared.batches.Batch.{Batch}
+use Rattle.session_law.specs.declared.batches.Entry.{Entry}
+use Rattle.session_law.specs.declared.worlds.NodeWorld.{NodeWorld}
+use Rattle.session_law.specs.declared.worlds.World.{World}
+use Rattle.session_law.specs.Histories.{AreApart, IsApart, IsKept, IsOwn, Placed, is_own_step, is_same_task, placed_in, placed_of, step_at, world_after}
+use Rattle.session_law.proofs.Counts.{IsCounted, placed_count, world_counted}
+use Rattle.master_run.specs.Rooms.{CanSend, HasRoom}
+use Rattle.master_run.proofs.Keeping.{both_first, both_second, no_some, some_same}
+
+-- ---- what a test of all elements says of one
+
+pub all_get : {A : Type 0} (p : A → Bool) (xs : List A) (i : ℕ) (x : A) → list_all p xs ≡ true → slice_get xs i ≡ Some x → p x ≡ true
+all_get p [] i x all e = absurd (no_some x e)
+all_get p (y ∷ ys) zero x all e = ap p (sym (some_same y x e)) ∙ both_first (p y) (list_all p ys) all
+all_get p (y ∷ ys) (suc i) x all e = all_get p ys i x (both_second (p y) (list_all p ys) all) e
+
+pub false_from : (b : Bool) → (b ≡ true → ⊥) → b ≡ false
+false_from true never = absurd (never refl)
+false_from false never = refl
+
+-- ---- where the step of an own entry stands
+
+pub record Stands (script : Script) (name : List ℕ) (client number : ℕ) : Type 0 where
+  pub steps : List Step
+  pub of_client : slice_get script.clients client ≡ Some steps
+  pub step : Step
+  pub of_steps : slice_get steps number ≡ Some step
+  pub own : is_own_step script name (Some step) ≡ true
+
+stands_step : (script : Script) (name : List ℕ) (client number : ℕ) (steps : List Step) → slice_get script.clients client ≡ Some steps
+    → (found : Option Step) → slice_get steps number ≡ found → is_own_step script name found ≡ true → Stands script name client number
+stands_step script name client number steps e None f h = absurd (true≢false (sym h))
+stands_step script name client number steps e (Some step) f h = record { steps = steps; of_client = e; step = step; of_steps = f; own = h }
+
+stands_client : (script : Script) (name : List ℕ) (client number : ℕ) (found : Option (List Step)) → slice_get script.clients client ≡ found
+    → is_own_step script name (option_and_then (λ steps. slice_get steps number) found) ≡ true → Stands script name client number
+stands_client script name client number None e h = absurd (true≢false (sym h))
+stands_client script name client number (Some steps) e h = stands_step script name client number steps e (slice_get steps number) refl h
+
+pub stands : (script : Script) (placed : Placed) → IsOwn script placed → Stands script placed.queue placed.entry.client placed.entry.step
+stands script placed own = stands_client script placed.queue placed.entry.client placed.entry.step (slice_get script.clients placed.entry.client) refl own
+
+-- ---- entries as numbers below 32 times 4,096
+
+record IsWithin (placed : Placed) : Type 0 where
+  client : placed.entry.client < 32
+  step : placed.entry.step < 4096
+
+within : (script : Script) (placed : Placed) → IsScript script → IsOwn script placed → IsWithin placed
+within script placed valid own =
+    let at = stands script placed own in
+    let few = leb-true (length at.steps) 4096 (both_first _ _ (all_get (is_client script) script.clients placed.entry.client at.steps valid.clients at.of_client)) in
+    let clients = valid.clients_limit in
+    let c = slice_get_within script.clients placed.entry.client at.steps at.of_client in
+    let s = slice_get_within at.steps placed.entry.step at.step at.of_steps in
+    record { client = omega arith; step = omega arith }
+
+all_within : (script : Script) (all : List Placed) → IsScript script → AllByRecursion (IsOwn script) all → AllByRecursion IsWithin all
+all_within script [] valid own = tt
+all_within script (placed ∷ all) valid own = (within script placed valid own.0, all_within script all valid own.1)
+
+code_of : Placed → ℕ
+code_of placed = placed.entry.client * 4096 + placed.entry.step
+
+numbers_apart : (c d s t : ℕ) → s < 4096 → t < 4096 → ((c == d) && (s == t)) ≡ false → ((c * 4096 + s) == (d * 4096 + t)) ≡ false
+numbers_apart c d s t hs ht other = false_from _ (λ h.
+    let e = (unsigned_Decides (c * 4096 + s) (d * 4096 + t)).0 h in
+    let same_client : c ≡ d = omega arith in
+    let same_step : s ≡ t = omega arith in
+    let same : ((c == d) && (s == t)) ≡ true = λ i. (unsigned_Decides c d).1 same_client i && (unsigned_Decides s t).1 same_step i in
+    true≢false (sym same ∙ other))
+
+codes_apart : (placed : Placed) (more : List Placed) → IsWithin placed → AllByRecursion IsWithin more → AllByRecursion (IsApart placed) more
+    → AllByRecursion (λ y. (code_of placed == y) ≡ false) (map code_of more)
+unfolding code_of
+codes_apart placed [] w ws apart = tt
+codes_apart placed (next ∷ more) w ws apart =
+    (numbers_apart placed.entry.client next.entry.client placed.entry.step next.entry.step w.step ws.0.step apart.0.other, codes_apart placed more w ws.1 apart.1)
+
+codes_distinct : (all : List Placed) → AllByRecursion IsWithin all → AreApart all → IsDistinct ◌==◌ (map code_of all)
+unfolding IsDistinct
+codes_distinct [] ws apart = tt
+codes_distinct (placed ∷ all) ws apart = (codes_apart placed all ws.0 ws.1 apart.0, codes_distinct all ws.1 apart.1)
+
+or_cases : (a b : Bool) (P : Type 0) → (a || b) ≡ true → (a ≡ true → P) → (b ≡ true → P) → P
+or_cases true b P h f g = f refl
+or_cases false b P h f g = g h
+
+codes_below : (all : List Placed) → AllByRecursion IsWithin all → (q : ℕ) → list_any (λ y. q == y) (map code_of all) ≡ true → q < 131072
+unfolding code_of
+codes_below [] ws q h = absurd (true≢false (sym h))
+codes_below (placed ∷ all) ws q h =
+    or_cases (q == code_of placed) (list_any (λ y. q == y) (map code_of all)) (q < 131072) h
+      (λ e. let same = (unsigned_Decides q (placed.entry.client * 4096 + placed.entry.step)).0 e in let c = ws.0.client in let s = ws.0.step in omega arith)
+      (codes_below all ws.1 q)
+
+pub entries_few : (script : Script) (batches : List Batch) (end : World) → IsScript script → IsKept script batches end → length (placed_of batches) ≤ 131072
+entries_few script batches end valid kept =
+    let ws = all_within script (placed_of batches) valid kept.serial.own in
+    let few = length-le_from_distinct_below (map code_of (placed_of batches)) 131072 (codes_distinct (placed_of batches) ws kept.serial.apart) (codes_below (placed_of batches) ws) in
+    subst (λ (n : ℕ). n ≤ 131072) (length-map (placed_of batches) code_of) few
+
+filled_few : (batches : List Batch) → AllByRecursion (λ b. 0 < length b.entries) batches → length batches ≤ length (placed_of batches)
+filled_few [] filled = omega arith
+filled_few (batch ∷ batches) filled =
+    let count = placed_count batch (placed_of batches) in let rest = filled_few batches filled.1 in let some = filled.0 in omega arith
+
+-- ---- room in the world
+
+roomy_indices : (n : ℕ) (indices : List (List ℕ × IndexMetadata)) → n ≤ 131072 → AreCounted n indices → AreRoomy indices
+roomy_indices n [] h c = tt
+roomy_indices n (p ∷ ps) h c = (record { version = let x = c.0.version in omega arith; settings_version = let x = c.0.settings_version in omega arith; aliases_version = let x = c.0.aliases_version in omega arith }, roomy_indices n ps h c.1)
+
+can_send : (p : ℕ) (nodes : List NodeWorld) → p ≤ 131072 → AllByRecursion (λ node. node.sent ≤ p) nodes → AllByRecursion CanSend nodes
+can_send p [] h c = tt
+can_send p (node ∷ nodes) h c = ((let x = c.0 in omega arith), can_send p nodes h c.1)
+
+room_of : (n p : ℕ) (world : World) → n ≤ 131072 → p ≤ 131072 → IsCounted n p world → HasRoom world
+room_of n p world h k c = record {
+    state = record {
+      id = let x = c.id in omega arith; term = let x = c.state.term in omega arith; version = let x = c.version in omega arith;
+      metadata_version = let x = c.metadata_version in omega arith; created = let x = c.state.created in omega arith;
+      indices = roomy_indices n world.state.metadata.indices h c.state.indices
+    };
+    proposals = let x = c.proposals in omega arith;
+    sent = can_send p world.nodes k c.sent
+  }
+
+pub kept_has_room : (script : Script) (batches : List Batch) (end : World) → IsScript script → IsKept script batches end → HasRoom end
+kept_has_room script batches end valid kept =
+    let few = entries_few script batches end valid kept in
+    let fewer = filled_few batches kept.serial.filled in
+    subst HasRoom (sym kept.world) (room_of (length (placed_of batches)) (length batches) (world_after script batches) few (omega arith) (world_counted script batches))

@@ -1,0 +1,182 @@
+-- A book stays kept where an entry of its script's own joins it that is apart from all before it.
+use Rattle.std.specs.Prelude.{◌≡◌, ℕ, zero, suc, ◌+◌, ◌<◌, ◌≤◌, Bool, true, false, not, ◌&&◌, ◌||◌, List, [], ◌∷◌, ◌++◌, length, map, fold, Option, Some, None, slice_get, bytes_eq, refl, if◌then◌else◌}
+use Rattle.std.proofs.Common.{sym, ◌∙◌, ap, subst, arith, append-nil}
+use Rattle.std.proofs.lemmas.Grind.{flat_map-append}
+use Rattle.std.proofs.Math.Bool.{true≢false}
+use Rattle.std.specs.List.{AllByRecursion, list_any}
+use Rattle.std.specs.Cmp.Lexicographic.{bytes_decides}
+use Rattle.meta_state.specs.declared.states.ClusterState.{ClusterState}
+use Rattle.meta_state.specs.declared.versions.Next.{Next}
+use Rattle.meta_state.specs.declared.versions.Next.TheVariants.{Same, Changed}
+use Rattle.meta_state.specs.Versions.{next_of}
+use Rattle.executors.specs.declared.contexts.Mark.{Mark}
+use Rattle.executors.specs.declared.executing.Executed.{Executed}
+use Rattle.executors.specs.declared.executing.Executed.TheVariants.{Made, Failed}
+use Rattle.executors.specs.declared.kinds.Kind.{Kind}
+use Rattle.executors.specs.declared.queues.QueueSpec.{QueueSpec}
+use Rattle.executors.specs.declared.scripts.Script.{Script}
+use Rattle.executors.specs.declared.scripts.ScriptNode.{ScriptNode}
+use Rattle.executors.specs.declared.tasks.Task.{Task}
+use Rattle.executors.specs.Contexts.{numbered}
+use Rattle.executors.specs.Executions.{executed}
+use Rattle.executors.specs.Kinds.{needs_master}
+use Rattle.executors.specs.Scripts.{IsScript, are_distinct}
+use Rattle.session_law.specs.declared.batches.Batch.{Batch}
+use Rattle.session_law.specs.declared.batches.Entry.{Entry}
+use Rattle.session_law.specs.declared.worlds.Reach.{Reach}
+use Rattle.session_law.specs.declared.worlds.Stepped.{Stepped}
+use Rattle.session_law.specs.declared.worlds.World.{World}
+use Rattle.session_law.specs.Histories.{AreApart, AreResults, AreSeen, IsApart, IsOwn, Placed, after, commit_of, kind_named, placed_in, placed_of, stepped, tasks_at, world_after}
+use Rattle.session_law.specs.Publications.{cut_by, does_commit, reach_all, reach_none}
+use Rattle.session_law.specs.Steps.{batch_step, commit_step, drop_step, executed_step, next_step}
+use Rattle.session_law.specs.Worlds.{first_world}
+use Rattle.master_run.specs.Books.{Chronicle, IsKeptBook, first_book, noted, ran_at}
+
+-- ---- tests and options
+
+pub some_same : {A : Type 0} (a b : A) → Some a ≡ Some b → a ≡ b
+some_same a b e = cc
+
+pub no_some : {A : Type 0} (a : A) → None ≡ Some a → ⊥
+no_some a e = cc
+
+or_right : (a b : Bool) → b ≡ true → (a || b) ≡ true
+or_right true b e = refl
+or_right false b e = e
+
+or_left : (a b : Bool) → a ≡ true → (a || b) ≡ true
+or_left true b e = refl
+or_left false b e = absurd (true≢false (sym e))
+
+not_true : (a : Bool) → not a ≡ true → a ≡ false
+not_true false e = refl
+not_true true e = absurd (true≢false (sym e))
+
+pub both_first : (a b : Bool) → (a && b) ≡ true → a ≡ true
+both_first true b e = refl
+both_first false b e = absurd (true≢false (sym e))
+
+pub both_second : (a b : Bool) → (a && b) ≡ true → b ≡ true
+both_second true b e = e
+both_second false b e = absurd (true≢false (sym e))
+
+-- ---- the first queue of a name is the one at its place, since the names are distinct
+
+any_at : (queues : List QueueSpec) (number : ℕ) (queue : QueueSpec) (name : List ℕ) → slice_get queues number ≡ Some queue → bytes_eq name queue.name ≡ true
+    → list_any (bytes_eq name) (map (λ q. q.name) queues) ≡ true
+any_at [] number queue name e h = absurd (no_some queue e)
+any_at (q ∷ queues) zero queue name e h = or_left _ _ (ap (λ (s : QueueSpec). bytes_eq name s.name) (some_same q queue e) ∙ h)
+any_at (q ∷ queues) (suc n) queue name e h = or_right _ _ (any_at queues n queue name e h)
+
+named_next : (b : Bool) (executor : Kind) (rest : Kind) (wanted : Kind) → (b ≡ true → ⊥) → rest ≡ wanted → (if b then executor else rest) ≡ wanted
+named_next true executor rest wanted never e = absurd (never refl)
+named_next false executor rest wanted never e = e
+
+named_first : (b : Bool) (executor rest wanted : Kind) → b ≡ true → executor ≡ wanted → (if b then executor else rest) ≡ wanted
+named_first true executor rest wanted holds e = e
+named_first false executor rest wanted holds e = absurd (true≢false (sym holds))
+
+pub bytes_turn : (a b : List ℕ) → bytes_eq a b ≡ true → bytes_eq b a ≡ true
+bytes_turn a b h = (bytes_decides b a).1 (sym ((bytes_decides a b).0 h))
+
+pub named_kind : (queues : List QueueSpec) (number : ℕ) (queue : QueueSpec) → are_distinct (map (λ q. q.name) queues) ≡ true → slice_get queues number ≡ Some queue
+    → kind_named queues queue.name ≡ queue.executor
+named_kind [] number queue d e = absurd (no_some queue e)
+named_kind (q ∷ queues) zero queue d e =
+    let same = some_same q queue e in
+    named_first (bytes_eq queue.name q.name) q.executor (kind_named queues queue.name) queue.executor
+      ((bytes_decides queue.name q.name).1 (ap (λ (s : QueueSpec). s.name) (sym same))) (ap (λ (s : QueueSpec). s.executor) same)
+named_kind (q ∷ queues) (suc n) queue d e =
+    let apart : list_any (bytes_eq q.name) (map (λ q. q.name) queues) ≡ false = not_true _ (both_first _ _ d) in
+    named_next (bytes_eq queue.name q.name) q.executor (kind_named queues queue.name) queue.executor
+      (λ h. true≢false (sym (any_at queues n queue q.name e (bytes_turn queue.name q.name h)) ∙ apart))
+      (named_kind queues n queue (both_second _ _ d) e)
+
+-- ---- a batch is the same again at the reading at which it committed
+
+publish_again : (commits : Bool) (world : World) (kind : Kind) (count at : ℕ) (new : ClusterState) (marks : List Mark) (reach : Reach)
+    → let at_reading : ℕ → Stepped = λ c. if commits then commit_step world kind c new marks reach else drop_step world count new reach in
+      at_reading (commit_of (at_reading at).result) ≡ at_reading at
+publish_again true world kind count at new marks reach = refl
+publish_again false world kind count at new marks reach = refl
+
+next_again : (cut : List ℕ → ℕ → Bool) (nodes : List ScriptNode) (world : World) (kind : Kind) (count at : ℕ) (marks : List Mark) (next : Next)
+    → next_step cut nodes world kind count (commit_of (next_step cut nodes world kind count at marks next).result) marks next ≡ next_step cut nodes world kind count at marks next
+next_again cut nodes world kind count at marks Same = refl
+next_again cut nodes world kind count at marks (Changed new) =
+    let reach = reach_all cut world.state new reach_none nodes world.nodes in
+    publish_again (does_commit new reach) world kind count at new marks reach
+
+executed_again : (cut : List ℕ → ℕ → Bool) (nodes : List ScriptNode) (world : World) (kind : Kind) (count at : ℕ) (made : Executed)
+    → executed_step cut nodes world kind count (commit_of (executed_step cut nodes world kind count at made).result) made ≡ executed_step cut nodes world kind count at made
+executed_again cut nodes world kind count at (Failed position refusal) = refl
+executed_again cut nodes world kind count at (Made state marks) = next_again cut nodes world kind count at marks (next_of world.state state (world.proposals + 2))
+
+office_again : (refused : Bool) (none : Stepped) (some : ℕ → Stepped) (at : ℕ) → some (commit_of (some at).result) ≡ some at
+    → let at_reading : ℕ → Stepped = λ c. if refused then none else some c in
+      at_reading (commit_of (at_reading at).result) ≡ at_reading at
+office_again true none some at e = refl
+office_again false none some at e = e
+
+step_again : (cut : List ℕ → ℕ → Bool) (nodes : List ScriptNode) (world : World) (kind : Kind) (tasks : List Task) (at : ℕ)
+    → batch_step cut nodes world kind tasks (commit_of (batch_step cut nodes world kind tasks at).result) ≡ batch_step cut nodes world kind tasks at
+unfolding batch_step
+step_again cut nodes world kind tasks at =
+    office_again (needs_master kind && not world.in_office) _ (λ c. executed_step cut nodes world kind (length tasks) c (executed kind world.state (numbered 0 tasks))) at
+      (executed_again cut nodes world kind (length tasks) at (executed kind world.state (numbered 0 tasks)))
+
+-- ---- one more at the back
+
+pub all_push : {X : Type 0} (P : X → Type 0) (xs : List X) (y : X) → AllByRecursion P xs → P y → AllByRecursion P (xs ++ y ∷ [])
+all_push P [] y all h = (h, tt)
+all_push P (x ∷ xs) y all h = (all.0, all_push P xs y all.1 h)
+
+results_push : (script : Script) (world : World) (batches : List Batch) (batch : Batch) → AreResults script world batches
+    → batch.result ≡ (stepped script (fold (after script) world batches) batch).result → AreResults script world (batches ++ batch ∷ [])
+results_push script world [] batch all e = (e, tt)
+results_push script world (first ∷ batches) batch all e = (all.0, results_push script (after script world first) batches batch all.1 e)
+
+apart_push : (all : List Placed) (placed : Placed) → AreApart all → AllByRecursion (λ before. IsApart before placed) all → AreApart (all ++ placed ∷ [])
+apart_push [] placed apart h = (tt, tt)
+apart_push (first ∷ more) placed apart h = (all_push (IsApart first) more placed apart.0 h.0, apart_push more placed apart.1 h.1)
+
+seen_push : (number : ℕ) (batches : List Batch) (batch : Batch) → AreSeen number batches → ((n : ℕ) → number ≤ n → AllByRecursion (λ e. e.seen < n) batch.entries)
+    → AreSeen number (batches ++ batch ∷ [])
+seen_push number [] batch seen h = (h number (omega arith), tt)
+seen_push number (first ∷ batches) batch seen h = (seen.0, seen_push (number + 1) batches batch seen.1 (λ n less. h n (omega arith)))
+
+world_push : (script : Script) (world : World) (batches : List Batch) (batch : Batch) → fold (after script) world (batches ++ batch ∷ []) ≡ after script (fold (after script) world batches) batch
+world_push script world [] batch = refl
+world_push script world (first ∷ batches) batch = world_push script (after script world first) batches batch
+
+pub placed_push : (batches : List Batch) (batch : Batch) → placed_of (batches ++ batch ∷ []) ≡ placed_of batches ++ placed_in batch
+placed_push batches batch = flat_map-append placed_in batches (batch ∷ []) ∙ ap (λ l. placed_of batches ++ l) (append-nil (placed_in batch))
+
+-- ---- the whole
+
+pub kept_first : (script : Script) → IsKeptBook script (first_book script)
+kept_first script = record { serial = record { results = tt; filled = tt; own = tt; apart = tt; seen = tt }; world = refl }
+
+pub kept_more : (script : Script) (book : Chronicle) (number : ℕ) (queue : QueueSpec) (entry : Entry) (at : ℕ)
+    → IsScript script → IsKeptBook script book → slice_get script.queues number ≡ Some queue
+    → let placed : Placed = record { queue = queue.name; entry = entry } in
+      IsOwn script placed → entry.seen ≡ 0 → AllByRecursion (λ before. IsApart before placed) (placed_of book.batches)
+    → IsKeptBook script (noted book queue (entry ∷ []) at (ran_at script book.world queue (entry ∷ []) at))
+kept_more script book number queue entry at valid kept e own seen apart =
+    let step : World → Kind → ℕ → Stepped = λ w k c. batch_step (cut_by script.faults) script.nodes w k (tasks_at script (entry ∷ [])) c in
+    let made = step book.world queue.executor at in
+    let batch : Batch = record { queue = queue.name; at = at; entries = entry ∷ []; result = made.result } in
+    let again : made ≡ stepped script (world_after script book.batches) batch =
+      sym (step_again (cut_by script.faults) script.nodes book.world queue.executor (tasks_at script (entry ∷ [])) at)
+        ∙ (λ i. step (kept.world i) (sym (named_kind script.queues number queue valid.queues_distinct e) i) (commit_of made.result)) in
+    let placed : Placed = record { queue = queue.name; entry = entry } in
+    record {
+      serial = record {
+        results = results_push script (first_world script) book.batches batch kept.serial.results (ap (λ (s : Stepped). s.result) again);
+        filled = all_push (λ (b : Batch). 0 < length b.entries) book.batches batch kept.serial.filled (omega arith);
+        own = subst (AllByRecursion (IsOwn script)) (sym (placed_push book.batches batch)) (all_push (IsOwn script) (placed_of book.batches) placed kept.serial.own own);
+        apart = subst AreApart (sym (placed_push book.batches batch)) (apart_push (placed_of book.batches) placed kept.serial.apart apart);
+        seen = seen_push 1 book.batches batch kept.serial.seen (λ n less. (omega (arith, seen), tt))
+      };
+      world = ap (λ (s : Stepped). s.world) again ∙ sym (world_push script (first_world script) book.batches batch)
+    }

@@ -1,0 +1,4 @@
+pub mod Bounds
+pub mod Keeping
+pub mod Orders
+pub mod Taken

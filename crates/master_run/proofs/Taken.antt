@@ -1,0 +1,95 @@
+-- The tasks of a kept book's batch are few, and its queue's executor takes each of them.
+use Rattle.std.specs.Prelude.{◌≡◌, ℕ, ◌+◌, ◌<◌, ◌^◌, Bool, true, ◌&&◌, List, [], ◌∷◌, ◌++◌, length, map, Option, Some, None, option_and_then, slice_get, bytes_eq, filter_map, refl}
+use Rattle.std.proofs.Common.{sym, ◌∙◌, ap, subst, arith}
+use Rattle.std.proofs.Math.Bool.{true≢false}
+use Rattle.std.specs.List.{AllByRecursion, cons_option, list_all}
+use Rattle.std.specs.Cmp.Lexicographic.{bytes_decides}
+use Rattle.std.proofs.lemmas.List.{length-append, length-map}
+use Rattle.executors.specs.declared.kinds.Kind.{Kind}
+use Rattle.executors.specs.declared.queues.QueueSpec.{QueueSpec}
+use Rattle.executors.specs.declared.scripts.Script.{Script}
+use Rattle.executors.specs.declared.steps.Step.{Step}
+use Rattle.executors.specs.declared.steps.Step.TheVariants.{Submit, Await, Watch, Next, Read, Sleep, Close}
+use Rattle.executors.specs.declared.tasks.Task.{Task}
+use Rattle.executors.specs.Built.{IsBuilt, is_built_step, is_taken}
+use Rattle.executors.specs.Kinds.{accepts}
+use Rattle.executors.specs.Scripts.{IsScript}
+use Rattle.session_law.specs.declared.batches.Batch.{Batch}
+use Rattle.session_law.specs.declared.batches.Entry.{Entry}
+use Rattle.session_law.specs.Histories.{IsOwn, Placed, is_named, is_own_step, kind_named, placed_in, placed_of, step_at, submitted, task_at, tasks_at}
+use Rattle.session_law.proofs.Counts.{filter_map_shorter}
+use Rattle.master_run.specs.Books.{Chronicle, IsKeptBook, noted, ran_at}
+use Rattle.master_run.proofs.Bounds.{Stands, all_get, entries_few, stands}
+use Rattle.master_run.proofs.Keeping.{both_first, both_second, named_kind, placed_push, some_same}
+
+-- ---- few
+
+pub few_tasks : (script : Script) (book : Chronicle) (queue : QueueSpec) (entries : List Entry) (at : ℕ) → IsScript script
+    → IsKeptBook script (noted book queue entries at (ran_at script book.world queue entries at)) → length (tasks_at script entries) < 2 ^ 32
+few_tasks script book queue entries at valid kept =
+    let made = ran_at script book.world queue entries at in
+    let batch : Batch = record { queue = queue.name; at = at; entries = entries; result = made.result } in
+    let all = entries_few script (book.batches ++ batch ∷ []) made.world valid kept in
+    let longer : length (placed_of (book.batches ++ batch ∷ [])) ≡ length (placed_of book.batches) + length entries =
+      ap length (placed_push book.batches batch) ∙ length-append (placed_of book.batches) (placed_in batch) ∙ ap (λ n. length (placed_of book.batches) + n) (length-map entries (λ e. record { queue = queue.name; entry = e })) in
+    let shorter = filter_map_shorter (task_at script) entries in
+    omega arith
+
+-- ---- taken
+
+-- a queue that is named as another is of the same executor
+named_same : (script : Script) (number : ℕ) (queue : QueueSpec) (other : QueueSpec) (at : ℕ) → IsScript script → slice_get script.queues number ≡ Some queue
+    → slice_get script.queues at ≡ Some other → bytes_eq other.name queue.name ≡ true → other.executor ≡ queue.executor
+named_same script number queue other at valid e f same =
+    sym (named_kind script.queues at other valid.queues_distinct f)
+      ∙ ap (kind_named script.queues) ((bytes_decides other.name queue.name).0 same)
+      ∙ named_kind script.queues number queue valid.queues_distinct e
+
+taken_by : (script : Script) (number : ℕ) (queue : QueueSpec) (task : Task) (at : ℕ) → IsScript script → slice_get script.queues number ≡ Some queue
+    → (found : Option QueueSpec) → slice_get script.queues at ≡ found → is_named queue.name found ≡ true → is_taken task found ≡ true → accepts queue.executor task ≡ true
+taken_by script number queue task at valid e None f named taken = absurd (true≢false (sym named))
+taken_by script number queue task at valid e (Some other) f named taken =
+    ap (λ k. accepts k task) (sym (named_same script number queue other at valid e f named)) ∙ taken
+
+step_taken : (script : Script) (number : ℕ) (queue : QueueSpec) → IsScript script → slice_get script.queues number ≡ Some queue
+    → (step : Step) → is_own_step script queue.name (Some step) ≡ true → is_built_step script step ≡ true
+    → (rest : List Task) → list_all (accepts queue.executor) rest ≡ true → list_all (accepts queue.executor) (cons_option (submitted step) rest) ≡ true
+step_taken script number queue valid e (Submit at task timeout ack) own built rest all =
+    λ i. taken_by script number queue task at valid e (slice_get script.queues at) refl own (both_first _ _ built) i && all i
+step_taken script number queue valid e (Await _ _) own built rest all = all
+step_taken script number queue valid e (Watch _ _ _ _) own built rest all = all
+step_taken script number queue valid e (Next _ _ _ _) own built rest all = all
+step_taken script number queue valid e (Read _ _) own built rest all = all
+step_taken script number queue valid e (Sleep _) own built rest all = all
+step_taken script number queue valid e Close own built rest all = all
+
+entry_taken : (script : Script) (number : ℕ) (queue : QueueSpec) (entry : Entry) → IsScript script → IsBuilt script → slice_get script.queues number ≡ Some queue
+    → Stands script queue.name entry.client entry.step
+    → (rest : List Task) → list_all (accepts queue.executor) rest ≡ true → list_all (accepts queue.executor) (cons_option (task_at script entry) rest) ≡ true
+entry_taken script number queue entry valid built e at rest all =
+    let here : step_at script entry.client entry.step ≡ Some at.step =
+      ap (option_and_then (λ steps. slice_get steps entry.step)) at.of_client ∙ at.of_steps in
+    let steps_built = all_get (list_all (is_built_step script)) script.clients entry.client at.steps built.steps at.of_client in
+    let step_built = all_get (is_built_step script) at.steps entry.step at.step steps_built at.of_steps in
+    subst (λ (o : Option Step). list_all (accepts queue.executor) (cons_option (option_and_then submitted o) rest) ≡ true) (sym here)
+      (step_taken script number queue valid e at.step at.own step_built rest all)
+
+entries_taken : (script : Script) (number : ℕ) (queue : QueueSpec) (entries : List Entry) → IsScript script → IsBuilt script → slice_get script.queues number ≡ Some queue
+    → AllByRecursion (IsOwn script) (map (λ e. record { queue = queue.name; entry = e }) entries) → list_all (accepts queue.executor) (tasks_at script entries) ≡ true
+entries_taken script number queue [] valid built e own = refl
+entries_taken script number queue (entry ∷ entries) valid built e own =
+    entry_taken script number queue entry valid built e (stands script (record { queue = queue.name; entry = entry }) own.0) (tasks_at script entries)
+      (entries_taken script number queue entries valid built e own.1)
+
+own_last : (script : Script) (before more : List Placed) → AllByRecursion (IsOwn script) (before ++ more) → AllByRecursion (IsOwn script) more
+own_last script [] more own = own
+own_last script (placed ∷ before) more own = own_last script before more own.1
+
+pub tasks_taken : (script : Script) (book : Chronicle) (number : ℕ) (queue : QueueSpec) (entries : List Entry) (at : ℕ) → IsScript script → IsBuilt script
+    → slice_get script.queues number ≡ Some queue → IsKeptBook script (noted book queue entries at (ran_at script book.world queue entries at))
+    → list_all (accepts queue.executor) (tasks_at script entries) ≡ true
+tasks_taken script book number queue entries at valid built e kept =
+    let made = ran_at script book.world queue entries at in
+    let batch : Batch = record { queue = queue.name; at = at; entries = entries; result = made.result } in
+    let own = subst (AllByRecursion (IsOwn script)) (placed_push book.batches batch) kept.serial.own in
+    entries_taken script number queue entries valid built e (own_last script (placed_of book.batches) (placed_in batch) own)

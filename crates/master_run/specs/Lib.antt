@@ -1,0 +1,5 @@
+pub mod Books
+pub mod Order
+pub mod Outcomes
+pub mod Replays
+pub mod Rooms

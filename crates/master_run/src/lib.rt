@@ -1,0 +1,13 @@
+//! The master: its book of batches, each with the state that it left, and the serial core that performs a script on
+//! one thread.
+#![tactic(auto)]
+
+mod batching;
+mod books;
+mod opening;
+mod publishing;
+mod serials;
+
+pub use books::{Book, BookEnd};
+pub use serials::SerialCore;
+pub use session_law::{Session, report_text};
