@@ -11,6 +11,7 @@ mod tests;
 use commands::esmaster;
 use edge_io::{MillisClock, OpenGate, StdSink, StdSource};
 use exits::Exit;
+use std::env::Env;
 use std::process::ExitCode;
 use std::{env, io};
 

@@ -6,16 +6,21 @@ use plain_data::OutOfMemory;
 use std::alloc::Global;
 use std::test::Fail;
 
-const QUEUES: &str = "[{\"name\":\"make\",\"executor\":\"create_index\",\"priority\":\"NORMAL\"},{\"name\":\"drop\",\"executor\":\"delete_index\",\"priority\":\"NORMAL\"},{\"name\":\"conf\",\"executor\":\"index_settings\",\"priority\":\"NORMAL\"},{\"name\":\"gate\",\"executor\":\"open_close\",\"priority\":\"NORMAL\"},{\"name\":\"alias\",\"executor\":\"aliases\",\"priority\":\"NORMAL\"},{\"name\":\"atom\",\"executor\":\"aliases_atomic\",\"priority\":\"NORMAL\"},{\"name\":\"glob\",\"executor\":\"cluster_settings\",\"priority\":\"NORMAL\"},{\"name\":\"node\",\"executor\":\"nodes\",\"priority\":\"IMMEDIATE\"},{\"name\":\"vote\",\"executor\":\"reelect\",\"priority\":\"IMMEDIATE\"},{\"name\":\"slow\",\"executor\":\"cluster_settings\",\"priority\":\"LANGUID\"},{\"name\":\"fast\",\"executor\":\"cluster_settings\",\"priority\":\"IMMEDIATE\"}]";
+const QUEUES: &str =
+    "[{\"name\":\"make\",\"executor\":\"create_index\",\"priority\":\"NORMAL\"},{\"name\":\"drop\",\"executor\":\"delete_index\",\"priority\":\"NORMAL\"},{\"name\":\"conf\",\"executor\":\"index_settings\",\"priority\":\"NORMAL\"},{\"name\":\"gate\",\"executor\":\"open_close\",\"priority\":\"NORMAL\"},{\"name\":\"alias\",\"executor\":\"aliases\",\"priority\":\"NORMAL\"},{\"name\":\"atom\",\"executor\":\"aliases_atomic\",\"priority\":\"NORMAL\"},{\"name\":\"glob\",\"executor\":\"cluster_settings\",\"priority\":\"NORMAL\"},{\"name\":\"node\",\"executor\":\"nodes\",\"priority\":\"IMMEDIATE\"},{\"name\":\"vote\",\"executor\":\"reelect\",\"priority\":\"IMMEDIATE\"},{\"name\":\"slow\",\"executor\":\"cluster_settings\",\"priority\":\"LANGUID\"},{\"name\":\"fast\",\"executor\":\"cluster_settings\",\"priority\":\"IMMEDIATE\"}]";
 
-const FIRST_REPORT: &str = "report 1\nstate {\"cluster\":\"demo\",\"id\":1,\"master\":\"n0\",\"metadata\":{\"created\":0,\"indices\":{},\"settings\":{},\"version\":1},\"nodes\":{\"n0\":{\"eligible\":true}},\"term\":1,\"version\":1}\n";
+const FIRST_REPORT: &str =
+    "report 1\nstate {\"cluster\":\"demo\",\"id\":1,\"master\":\"n0\",\"metadata\":{\"created\":0,\"indices\":{},\"settings\":{},\"version\":1},\"nodes\":{\"n0\":{\"eligible\":true}},\"term\":1,\"version\":1}\n";
 
-const CREATED_REPORT: &str = "report 1\nbatch 1 queue make at 0 tasks 0.0/0 published 2 id 2 commit 0 diffs 1 fulls 0 accepted 1\ntask 0.0 at 0 ok 2\nstate {\"cluster\":\"demo\",\"id\":2,\"master\":\"n0\",\"metadata\":{\"created\":1,\"indices\":{\"logs-1\":{\"aliases\":[],\"aliases_version\":1,\"id\":1,\"open\":true,\"replicas\":1,\"settings_version\":1,\"shards\":1,\"version\":1}},\"settings\":{},\"version\":2},\"nodes\":{\"n0\":{\"eligible\":true}},\"term\":1,\"version\":2}\n";
+const CREATED_REPORT: &str =
+    "report 1\nbatch 1 queue make at 0 tasks 0.0/0 published 2 id 2 commit 0 diffs 1 fulls 0 accepted 1\ntask 0.0 at 0 ok 2\nstate {\"cluster\":\"demo\",\"id\":2,\"master\":\"n0\",\"metadata\":{\"created\":1,\"indices\":{\"logs-1\":{\"aliases\":[],\"aliases_version\":1,\"id\":1,\"open\":true,\"replicas\":1,\"settings_version\":1,\"shards\":1,\"version\":1}},\"settings\":{},\"version\":2},\"nodes\":{\"n0\":{\"eligible\":true}},\"term\":1,\"version\":2}\n";
 
 /// The base script with these clients.
 fn script(alloc: Global, clients: &str) -> Result<Vec<u8>, OutOfMemory> {
     let queues = QUEUES;
-    let text = format!(in alloc; "{{\"version\":1,\"cluster\":\"demo\",\"nodes\":[{{\"name\":\"n0\"}}],\"queues\":{queues},\"clients\":{clients}}}")?;
+    let text = format!(in alloc;
+        "{{\"version\":1,\"cluster\":\"demo\",\"nodes\":[{{\"name\":\"n0\"}}],\"queues\":{queues},\"clients\":{clients}}}"
+    )?;
     Ok(Vec::from_slice(alloc, text.as_bytes())?)
 }
 
@@ -74,13 +79,18 @@ fn an_index_name_has_at_most_255_bytes(rt: HostRuntime) -> Result<(), Fail> {
     let alloc = rt.alloc();
     for (count, line) in [
         (255usize, "\ntask 0.0 at 0 ok 2\n"),
-        (256usize, " unchanged 1\ntask 0.0 at 0 refused invalid_name\n"),
+        (
+            256usize,
+            " unchanged 1\ntask 0.0 at 0 refused invalid_name\n",
+        ),
     ] {
         let mut name = String::new(alloc);
         for _ in 0..count {
             name.push_str("a")?;
         }
-        let clients = format!(in alloc; "[[{{\"do\":\"submit\",\"queue\":\"make\",\"task\":{{\"index\":\"{name}\"}}}}]]")?;
+        let clients = format!(in alloc;
+            "[[{{\"do\":\"submit\",\"queue\":\"make\",\"task\":{{\"index\":\"{name}\"}}}}]]"
+        )?;
         let (ended, written) = replayed(alloc, script(alloc, clients.as_str())?)?;
         assert_eq!(rt; ended, Exit::Done);
         let text = String::from_utf8(written).map_err(|_| "no text")?;
@@ -144,7 +154,11 @@ fn other_words_are_no_command(rt: HostRuntime) -> Result<(), Fail> {
             &OpenGate,
         );
         assert_eq!(rt; ended, exit, "of {words}");
-        assert_eq!(rt; sink.written().is_empty(), exit == Exit::Usage, "of {words}");
+        assert_eq!(rt;
+            sink.written().is_empty(),
+            exit == Exit::Usage,
+            "of {words}"
+        );
     }
     Ok(())
 }

@@ -44,9 +44,10 @@ indices_later n m (p ∷ ps) h c = (index_later n m p.1 h c.0, indices_later n m
 
 pub state_later : (n m : ℕ) (state : ClusterState) → n ≤ m → IsCountedState n state → IsCountedState m state
 state_later n m state h c = record {
-    term = let x = c.term in omega arith; created = let x = c.created in omega arith;
-    indices = indices_later n m state.metadata.indices h c.indices
-  }
+  term = let x = c.term in omega arith;
+  created = let x = c.created in omega arith;
+  indices = indices_later n m state.metadata.indices h c.indices;
+}
 
 -- a value put into a map, where each value meets a fact
 by_order : {V : Type 0} (Q : V → Type 0) (k : List ℕ) (v : V) (e : List ℕ × V) (es more : List (List ℕ × V))
@@ -64,12 +65,12 @@ created_counted : (refusal : Option TaskRefusal) (n : ℕ) (state : ClusterState
     → IsCountedState n state → IsCountedState (n + 1) (outcome refusal state (created_in state index shards replicas)).0
 created_counted (Some _) n state index shards replicas c = state_later n (n + 1) state (omega arith) c
 created_counted None n state index shards replicas c = record {
-    term = let x = c.term in omega arith;
-    created = let x = c.created in omega arith;
-    indices = with_all (IsCountedIndex (n + 1)) index (new_index (state.metadata.created + 1) shards replicas) state.metadata.indices
+  term = let x = c.term in omega arith;
+  created = let x = c.created in omega arith;
+  indices = with_all (IsCountedIndex (n + 1)) index (new_index (state.metadata.created + 1) shards replicas) state.metadata.indices
       (record { version = omega arith; settings_version = omega arith; aliases_version = omega arith })
-      (indices_later n (n + 1) state.metadata.indices (omega arith) c.indices)
-  }
+      (indices_later n (n + 1) state.metadata.indices (omega arith) c.indices);
+}
 
 task_counted : (n : ℕ) (state : ClusterState) (task : Task) → IsCountedState n state → IsCountedState (n + 1) (task_outcome state task).0
 task_counted n state (CreateIndex index shards replicas) c = created_counted (create_refusal state index shards replicas) n state index shards replicas c

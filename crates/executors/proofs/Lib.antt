@@ -1,3 +1,4 @@
 pub mod Counts
 pub mod Fold
 pub mod Numbering
+pub mod Taking

@@ -1,5 +1,5 @@
 -- What is built so far: which scripts a replay performs. Each later stage shortens this list by what it builds.
-use Rattle.std.specs.Prelude.{◌≡◌, ℕ, ◌≤◌, Bool, true, false, ◌&&◌, List, [], Some, None, Option, length, slice_get, IsTrue, is_none}
+use Rattle.std.specs.Prelude.{◌≡◌, ℕ, ◌≤◌, Bool, false, ◌&&◌, [], Some, None, Option, length, slice_get, IsTrue, is_none}
 use Rattle.std.specs.List.{list_all}
 use Rattle.executors.specs.declared.queues.QueueSpec.{QueueSpec}
 use Rattle.executors.specs.declared.scripts.Script.{Script}

@@ -1,7 +1,6 @@
 -- What an executor makes of a batch: a fold over its tasks, each on the state that those before it left.
 use Rattle.std.specs.Prelude.{◌≡◌, ℕ, ◌-◌, ◌^◌, ◌<◌, List, [], ◌∷◌, ◌++◌, map}
 use Rattle.meta_state.specs.declared.states.ClusterState.{ClusterState}
-use Rattle.executors.specs.declared.contexts.Mark.{Mark}
 use Rattle.executors.specs.declared.contexts.TaskContext.{TaskContext}
 use Rattle.executors.specs.declared.executing.Executed.{Executed}
 use Rattle.executors.specs.declared.executing.Executed.TheVariants.{Made, Failed}

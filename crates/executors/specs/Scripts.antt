@@ -1,10 +1,8 @@
 -- When a script is valid: every name, reference, range and limit of the script's form. Layers above have it as a
 -- condition. All of it is this project's own.
-use Rattle.std.specs.Prelude.{◌≡◌, ℕ, ◌+◌, ◌*◌, ◌≤◌, Bool, true, false, not, ◌==◌, ◌&&◌, ◌||◌, List, [], ◌∷◌, ◌++◌, Some, None, Option, length, map, max, nat_le, bytes_eq, slice_get, IsTrue, count_by, sum_by, flat_map, is_some}
+use Rattle.std.specs.Prelude.{◌≡◌, ℕ, ◌+◌, ◌*◌, ◌≤◌, Bool, true, false, not, ◌==◌, ◌&&◌, ◌||◌, List, [], ◌∷◌, ◌++◌, Some, None, Option, length, map, max, nat_le, bytes_eq, slice_get, IsTrue, count_by, flat_map, is_some}
 use Rattle.std.specs.List.{list_all, list_any}
 use Rattle.std.specs.Bool.{beq}
-use Rattle.std.specs.Map.{keys_of}
-use Rattle.meta_state.specs.declared.looks.Look.{Look}
 use Rattle.meta_state.specs.declared.looks.Look.TheVariants.{Alias}
 use Rattle.meta_state.specs.declared.predicates.Pred.{Pred, fold-Pred}
 use Rattle.meta_state.specs.declared.predicates.Pred.TheOpen.{Pred-F}

@@ -24,3 +24,6 @@ pub use refusals::TaskRefusal;
 pub use scripts::{Script, ScriptNode, ScriptTurn};
 pub use steps::{Ack, Goal, Step};
 pub use tasks::{Task, TaskId};
+
+#[cfg(test)]
+mod tests;

@@ -107,8 +107,8 @@ unfolding code_of
 codes_below [] ws q h = absurd (true≢false (sym h))
 codes_below (placed ∷ all) ws q h =
     or_cases (q == code_of placed) (list_any (λ y. q == y) (map code_of all)) (q < 131072) h
-      (λ e. let same = (unsigned_Decides q (placed.entry.client * 4096 + placed.entry.step)).0 e in let c = ws.0.client in let s = ws.0.step in omega arith)
-      (codes_below all ws.1 q)
+    (λ e. let same = (unsigned_Decides q (placed.entry.client * 4096 + placed.entry.step)).0 e in let c = ws.0.client in let s = ws.0.step in omega arith)
+    (codes_below all ws.1 q)
 
 pub entries_few : (script : Script) (batches : List Batch) (end : World) → IsScript script → IsKept script batches end → length (placed_of batches) ≤ 131072
 entries_few script batches end valid kept =
@@ -133,14 +133,17 @@ can_send p (node ∷ nodes) h c = ((let x = c.0 in omega arith), can_send p node
 
 room_of : (n p : ℕ) (world : World) → n ≤ 131072 → p ≤ 131072 → IsCounted n p world → HasRoom world
 room_of n p world h k c = record {
-    state = record {
-      id = let x = c.id in omega arith; term = let x = c.state.term in omega arith; version = let x = c.version in omega arith;
-      metadata_version = let x = c.metadata_version in omega arith; created = let x = c.state.created in omega arith;
-      indices = roomy_indices n world.state.metadata.indices h c.state.indices
-    };
-    proposals = let x = c.proposals in omega arith;
-    sent = can_send p world.nodes k c.sent
-  }
+  state = record {
+    id = let x = c.id in omega arith;
+    term = let x = c.state.term in omega arith;
+    version = let x = c.version in omega arith;
+    metadata_version = let x = c.metadata_version in omega arith;
+    created = let x = c.state.created in omega arith;
+    indices = roomy_indices n world.state.metadata.indices h c.state.indices;
+  };
+  proposals = let x = c.proposals in omega arith;
+  sent = can_send p world.nodes k c.sent;
+}
 
 pub kept_has_room : (script : Script) (batches : List Batch) (end : World) → IsScript script → IsKept script batches end → HasRoom end
 kept_has_room script batches end valid kept =

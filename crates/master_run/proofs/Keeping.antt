@@ -85,18 +85,18 @@ named_kind [] number queue d e = absurd (no_some queue e)
 named_kind (q ∷ queues) zero queue d e =
     let same = some_same q queue e in
     named_first (bytes_eq queue.name q.name) q.executor (kind_named queues queue.name) queue.executor
-      ((bytes_decides queue.name q.name).1 (ap (λ (s : QueueSpec). s.name) (sym same))) (ap (λ (s : QueueSpec). s.executor) same)
+    ((bytes_decides queue.name q.name).1 (ap (λ (s : QueueSpec). s.name) (sym same))) (ap (λ (s : QueueSpec). s.executor) same)
 named_kind (q ∷ queues) (suc n) queue d e =
     let apart : list_any (bytes_eq q.name) (map (λ q. q.name) queues) ≡ false = not_true _ (both_first _ _ d) in
     named_next (bytes_eq queue.name q.name) q.executor (kind_named queues queue.name) queue.executor
-      (λ h. true≢false (sym (any_at queues n queue q.name e (bytes_turn queue.name q.name h)) ∙ apart))
-      (named_kind queues n queue (both_second _ _ d) e)
+    (λ h. true≢false (sym (any_at queues n queue q.name e (bytes_turn queue.name q.name h)) ∙ apart))
+    (named_kind queues n queue (both_second _ _ d) e)
 
 -- ---- a batch is the same again at the reading at which it committed
 
 publish_again : (commits : Bool) (world : World) (kind : Kind) (count at : ℕ) (new : ClusterState) (marks : List Mark) (reach : Reach)
     → let at_reading : ℕ → Stepped = λ c. if commits then commit_step world kind c new marks reach else drop_step world count new reach in
-      at_reading (commit_of (at_reading at).result) ≡ at_reading at
+    at_reading (commit_of (at_reading at).result) ≡ at_reading at
 publish_again true world kind count at new marks reach = refl
 publish_again false world kind count at new marks reach = refl
 
@@ -114,7 +114,7 @@ executed_again cut nodes world kind count at (Made state marks) = next_again cut
 
 office_again : (refused : Bool) (none : Stepped) (some : ℕ → Stepped) (at : ℕ) → some (commit_of (some at).result) ≡ some at
     → let at_reading : ℕ → Stepped = λ c. if refused then none else some c in
-      at_reading (commit_of (at_reading at).result) ≡ at_reading at
+    at_reading (commit_of (at_reading at).result) ≡ at_reading at
 office_again true none some at e = refl
 office_again false none some at e = e
 
@@ -123,7 +123,7 @@ step_again : (cut : List ℕ → ℕ → Bool) (nodes : List ScriptNode) (world 
 unfolding batch_step
 step_again cut nodes world kind tasks at =
     office_again (needs_master kind && not world.in_office) _ (λ c. executed_step cut nodes world kind (length tasks) c (executed kind world.state (numbered 0 tasks))) at
-      (executed_again cut nodes world kind (length tasks) at (executed kind world.state (numbered 0 tasks)))
+    (executed_again cut nodes world kind (length tasks) at (executed kind world.state (numbered 0 tasks)))
 
 -- ---- one more at the back
 
@@ -160,15 +160,15 @@ kept_first script = record { serial = record { results = tt; filled = tt; own = 
 pub kept_more : (script : Script) (book : Chronicle) (number : ℕ) (queue : QueueSpec) (entry : Entry) (at : ℕ)
     → IsScript script → IsKeptBook script book → slice_get script.queues number ≡ Some queue
     → let placed : Placed = record { queue = queue.name; entry = entry } in
-      IsOwn script placed → entry.seen ≡ 0 → AllByRecursion (λ before. IsApart before placed) (placed_of book.batches)
+    IsOwn script placed → entry.seen ≡ 0 → AllByRecursion (λ before. IsApart before placed) (placed_of book.batches)
     → IsKeptBook script (noted book queue (entry ∷ []) at (ran_at script book.world queue (entry ∷ []) at))
 kept_more script book number queue entry at valid kept e own seen apart =
     let step : World → Kind → ℕ → Stepped = λ w k c. batch_step (cut_by script.faults) script.nodes w k (tasks_at script (entry ∷ [])) c in
     let made = step book.world queue.executor at in
     let batch : Batch = record { queue = queue.name; at = at; entries = entry ∷ []; result = made.result } in
     let again : made ≡ stepped script (world_after script book.batches) batch =
-      sym (step_again (cut_by script.faults) script.nodes book.world queue.executor (tasks_at script (entry ∷ [])) at)
-        ∙ (λ i. step (kept.world i) (sym (named_kind script.queues number queue valid.queues_distinct e) i) (commit_of made.result)) in
+    sym (step_again (cut_by script.faults) script.nodes book.world queue.executor (tasks_at script (entry ∷ [])) at)
+    ∙ (λ i. step (kept.world i) (sym (named_kind script.queues number queue valid.queues_distinct e) i) (commit_of made.result)) in
     let placed : Placed = record { queue = queue.name; entry = entry } in
     record {
       serial = record {
@@ -176,7 +176,7 @@ kept_more script book number queue entry at valid kept e own seen apart =
         filled = all_push (λ (b : Batch). 0 < length b.entries) book.batches batch kept.serial.filled (omega arith);
         own = subst (AllByRecursion (IsOwn script)) (sym (placed_push book.batches batch)) (all_push (IsOwn script) (placed_of book.batches) placed kept.serial.own own);
         apart = subst AreApart (sym (placed_push book.batches batch)) (apart_push (placed_of book.batches) placed kept.serial.apart apart);
-        seen = seen_push 1 book.batches batch kept.serial.seen (λ n less. (omega (arith, seen), tt))
+        seen = seen_push 1 book.batches batch kept.serial.seen (λ n less. (omega (arith, seen), tt));
       };
-      world = ap (λ (s : Stepped). s.world) again ∙ sym (world_push script (first_world script) book.batches batch)
+      world = ap (λ (s : Stepped). s.world) again ∙ sym (world_push script (first_world script) book.batches batch);
     }

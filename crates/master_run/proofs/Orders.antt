@@ -33,10 +33,13 @@ step_less a b c d (inr same) e = same.1
 apart_after : (queue : List ℕ) (client step : ℕ) (all : List Placed) → AllByRecursion (IsBefore client step) all
     → AllByRecursion (λ before. IsApart before (record { queue = queue; entry = entry_of client step })) all
 apart_after queue client step [] before = tt
-apart_after queue client step (placed ∷ all) before = (record {
-      other = false_from _ (not_same placed.entry.client placed.entry.step client step before.0);
-      rises = λ q e. step_less placed.entry.client placed.entry.step client step before.0 e
-    }, apart_after queue client step all before.1)
+apart_after queue client step (placed ∷ all) before = (
+  record {
+    other = false_from _ (not_same placed.entry.client placed.entry.step client step before.0);
+    rises = λ q e. step_less placed.entry.client placed.entry.step client step before.0 e;
+  },
+  apart_after queue client step all before.1,
+)
 
 own_entry : (script : Script) (client step number : ℕ) (task : Task) (timeout : Option ℕ) (ack : Option Ack) (queue : QueueSpec)
     → step_at script client step ≡ Some (Submit number task timeout ack) → slice_get script.queues number ≡ Some queue
@@ -50,7 +53,7 @@ joins : (script : Script) (book : Chronicle) (client step number : ℕ) (task : 
 joins script book client step number task timeout ack None valid kept at e before = kept
 joins script book client step number task timeout ack (Some queue) valid kept at e before =
     kept_more script book number queue (entry_of client step) 0 valid kept e (own_entry script client step number task timeout ack queue at e) refl
-      (apart_after queue.name client step (placed_of book.batches) before)
+    (apart_after queue.name client step (placed_of book.batches) before)
 
 pub submit_joins : (script : Script) (book : Chronicle) (client step number : ℕ) (task : Task) (timeout : Option ℕ) (ack : Option Ack)
     → IsScript script → IsKeptBook script book → step_at script client step ≡ Some (Submit number task timeout ack)
@@ -83,8 +86,8 @@ noted_before script book client step (Some queue) before =
     let made = ran_at script book.world queue (entry_of client step ∷ []) 0 in
     let batch : Batch = record { queue = queue.name; at = 0; entries = entry_of client step ∷ []; result = made.result } in
     subst (AllByRecursion (IsBefore client (step + 1))) (sym (placed_push book.batches batch))
-      (all_push (IsBefore client (step + 1)) (placed_of book.batches) (record { queue = queue.name; entry = entry_of client step })
-        (steps_later client step (placed_of book.batches) before) (inr (refl, omega arith)))
+    (all_push (IsBefore client (step + 1)) (placed_of book.batches) (record { queue = queue.name; entry = entry_of client step })
+    (steps_later client step (placed_of book.batches) before) (inr (refl, omega arith)))
 
 pub added_before : (script : Script) (book : Chronicle) (client step number : ℕ) → AreBefore client step book.batches
     → AreBefore client (step + 1) (added script book number (entry_of client step ∷ []) 0).batches

@@ -31,7 +31,7 @@ few_tasks script book queue entries at valid kept =
     let batch : Batch = record { queue = queue.name; at = at; entries = entries; result = made.result } in
     let all = entries_few script (book.batches ++ batch ∷ []) made.world valid kept in
     let longer : length (placed_of (book.batches ++ batch ∷ [])) ≡ length (placed_of book.batches) + length entries =
-      ap length (placed_push book.batches batch) ∙ length-append (placed_of book.batches) (placed_in batch) ∙ ap (λ n. length (placed_of book.batches) + n) (length-map entries (λ e. record { queue = queue.name; entry = e })) in
+    ap length (placed_push book.batches batch) ∙ length-append (placed_of book.batches) (placed_in batch) ∙ ap (λ n. length (placed_of book.batches) + n) (length-map entries (λ e. record { queue = queue.name; entry = e })) in
     let shorter = filter_map_shorter (task_at script) entries in
     omega arith
 
@@ -42,8 +42,8 @@ named_same : (script : Script) (number : ℕ) (queue : QueueSpec) (other : Queue
     → slice_get script.queues at ≡ Some other → bytes_eq other.name queue.name ≡ true → other.executor ≡ queue.executor
 named_same script number queue other at valid e f same =
     sym (named_kind script.queues at other valid.queues_distinct f)
-      ∙ ap (kind_named script.queues) ((bytes_decides other.name queue.name).0 same)
-      ∙ named_kind script.queues number queue valid.queues_distinct e
+    ∙ ap (kind_named script.queues) ((bytes_decides other.name queue.name).0 same)
+    ∙ named_kind script.queues number queue valid.queues_distinct e
 
 taken_by : (script : Script) (number : ℕ) (queue : QueueSpec) (task : Task) (at : ℕ) → IsScript script → slice_get script.queues number ≡ Some queue
     → (found : Option QueueSpec) → slice_get script.queues at ≡ found → is_named queue.name found ≡ true → is_taken task found ≡ true → accepts queue.executor task ≡ true
@@ -68,18 +68,18 @@ entry_taken : (script : Script) (number : ℕ) (queue : QueueSpec) (entry : Entr
     → (rest : List Task) → list_all (accepts queue.executor) rest ≡ true → list_all (accepts queue.executor) (cons_option (task_at script entry) rest) ≡ true
 entry_taken script number queue entry valid built e at rest all =
     let here : step_at script entry.client entry.step ≡ Some at.step =
-      ap (option_and_then (λ steps. slice_get steps entry.step)) at.of_client ∙ at.of_steps in
+    ap (option_and_then (λ steps. slice_get steps entry.step)) at.of_client ∙ at.of_steps in
     let steps_built = all_get (list_all (is_built_step script)) script.clients entry.client at.steps built.steps at.of_client in
     let step_built = all_get (is_built_step script) at.steps entry.step at.step steps_built at.of_steps in
     subst (λ (o : Option Step). list_all (accepts queue.executor) (cons_option (option_and_then submitted o) rest) ≡ true) (sym here)
-      (step_taken script number queue valid e at.step at.own step_built rest all)
+    (step_taken script number queue valid e at.step at.own step_built rest all)
 
 entries_taken : (script : Script) (number : ℕ) (queue : QueueSpec) (entries : List Entry) → IsScript script → IsBuilt script → slice_get script.queues number ≡ Some queue
     → AllByRecursion (IsOwn script) (map (λ e. record { queue = queue.name; entry = e }) entries) → list_all (accepts queue.executor) (tasks_at script entries) ≡ true
 entries_taken script number queue [] valid built e own = refl
 entries_taken script number queue (entry ∷ entries) valid built e own =
     entry_taken script number queue entry valid built e (stands script (record { queue = queue.name; entry = entry }) own.0) (tasks_at script entries)
-      (entries_taken script number queue entries valid built e own.1)
+    (entries_taken script number queue entries valid built e own.1)
 
 own_last : (script : Script) (before more : List Placed) → AllByRecursion (IsOwn script) (before ++ more) → AllByRecursion (IsOwn script) more
 own_last script [] more own = own

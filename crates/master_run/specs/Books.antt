@@ -30,10 +30,10 @@ ran_at script world queue entries at = batch_step (cut_by script.faults) script.
 
 abbrev pub noted : Chronicle → QueueSpec → List Entry → ℕ → Stepped → Chronicle
 noted book queue entries at step = record {
-    batches = book.batches ++ record { queue = queue.name; at = at; entries = entries; result = step.result } ∷ [];
-    ends = step.ends;
-    world = step.world
-  }
+  batches = book.batches ++ record { queue = queue.name; at = at; entries = entries; result = step.result } ∷ [];
+  ends = step.ends;
+  world = step.world;
+}
 
 abbrev pub added_to : Script → Chronicle → Option QueueSpec → List Entry → ℕ → Chronicle
 added_to script book None entries at = book

@@ -40,9 +40,14 @@ perform_clients script client replay (steps ∷ more) = perform_clients script (
 
 abbrev pub session_of : Replay → Session
 session_of replay = record {
-    batches = replay.book.batches; replies = replay.replies; acks = []; watches = []; reads = []; nodes = [];
-    last = replay.book.world.state
-  }
+  batches = replay.book.batches;
+  replies = replay.replies;
+  acks = [];
+  watches = [];
+  reads = [];
+  nodes = [];
+  last = replay.book.world.state;
+}
 
 -- the one session that the serial rule makes of a script
 unfoldable pub replayed : Script → Session

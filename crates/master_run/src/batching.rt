@@ -71,7 +71,16 @@ fn settle(
         }),
         Executed::Made { state, marks } => {
             let next = next_state(&world.state, state, world.proposals + 2);
-            propose(alloc, script, world, kind, count, commit, marks.as_slice(), next)
+            propose(
+                alloc,
+                script,
+                world,
+                kind,
+                count,
+                commit,
+                marks.as_slice(),
+                next,
+            )
         }
     }
 }

@@ -9,5 +9,6 @@ mod publishing;
 mod serials;
 
 pub use books::{Book, BookEnd};
+pub use script_form::{LimitName, Rule, ScriptRefusal, read_script};
 pub use serials::SerialCore;
 pub use session_law::{Session, report_text};

@@ -1,6 +1,6 @@
 -- The names that an index or an alias may have: Elasticsearch's rules of index names (`MetadataCreateIndexService`
 -- and `MetadataCreateIndexService.validateIndexOrAliasName`), the last one this project's own.
-use Rattle.std.specs.Prelude.{ℕ, Bool, true, false, ◌==◌, ◌||◌, ◌<◌, ◌≤◌, List, [], ◌∷◌, Some, None, Option, length, codes, nat_lt, nat_le, bytes_eq, if◌then◌else◌, ◌&&◌}
+use Rattle.std.specs.Prelude.{ℕ, Bool, false, ◌==◌, ◌||◌, List, [], ◌∷◌, Some, None, Option, length, codes, nat_lt, nat_le, bytes_eq, if◌then◌else◌, ◌&&◌}
 use Rattle.std.specs.List.{list_any}
 
 -- whether it begins with `_`, `-` or `+`

@@ -23,3 +23,6 @@ pub use spelling::to_json;
 pub use states::ClusterState;
 pub use versions::{Next, next_state};
 pub use watches::WatchId;
+
+#[cfg(test)]
+mod tests;

@@ -1,1 +1,3 @@
+mod At
 mod Order
+mod Walks

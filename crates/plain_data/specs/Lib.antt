@@ -1,2 +1,5 @@
+pub mod Depths
 pub mod Pairs
+pub mod Trees
+pub mod Walks
 pub mod formers

@@ -1,15 +1,15 @@
 -- A map as the list of its pairs, in byte order of their keys: the words by which every definition reads and
 -- changes maps. A set of names is the map of those names to nothing.
-use Rattle.std.specs.Prelude.{◌≡◌, ℕ, Bool, true, ◌==◌, ◌&&◌, List, [], Some, None, Option, refl}
+use Rattle.std.specs.Prelude.{◌≡◌, ℕ, Bool, true, ◌==◌, ◌&&◌, List, Option, refl}
 use Rattle.std.proofs.Common.{ap}
 use Rattle.std.specs.Ordering.{nat_cmp}
 use Rattle.std.specs.Bool.{Decides}
 use Rattle.std.specs.Cmp.{IsEquivalence, IsPartialEquivalence, on_per, and_per, on_equiv, and_equiv, partial_equiv_from_equiv}
+use Rattle.std.specs.List.Sorted.{IsStrictlySortedBy}
 use Rattle.std.specs.Cmp.Lexicographic.{pointwise, slice_cmp, lists_per, lists_equiv, pointwise_decides, bytes_decides, nat_list_eq_equiv}
 use Rattle.std.specs.BTreeMap as tree
 use Rattle.std.specs.Map as entries
 use Rattle.std.proofs.lemmas.Bool.Decides.{Decides-and, Decides-like}
-use Rattle.std.specs.declared.sync.Arc.{Arc}
 use denote.Ref.{Bor}
 
 -- the value at a key
@@ -23,6 +23,10 @@ with key value pairs = tree.insert_entry (slice_cmp nat_cmp) pairs key value
 -- the map without a key
 abbrev pub without : {V : Type 0} → List ℕ → List (List ℕ × V) → List (List ℕ × V)
 without key pairs = entries.remove_entry (tree.is_at (slice_cmp nat_cmp key)) pairs
+
+-- the keys stand in byte order, each once
+abbrev pub InOrder : {V : Type 0} → List (List ℕ × V) → Type 0
+InOrder pairs = IsStrictlySortedBy (slice_cmp nat_cmp) (entries.keys_of pairs)
 
 -- whether two maps have the same keys, with values that a test takes for equal
 abbrev pub pairs_eq : {V : Type 0} → (V → V → Bool) → List (List ℕ × V) → List (List ℕ × V) → Bool
@@ -53,13 +57,3 @@ unit_decides a b = (λ _. refl, λ _. refl)
 -- a name as a set shows it
 abbrev pub a_name : Bor (List ℕ) → List ℕ × Unit {0}
 a_name name = (name.now, tt)
-
--- the pairs of a map that is kept as one shared tree, or as none while it is empty
-abbrev pub pairs_shared : {V Z : Type 0} → Option (Arc (tree.BTreeMap (List ℕ) V) Z) → List (List ℕ × V)
-pairs_shared None = []
-pairs_shared (Some shared) = shared.value.entries
-
--- the pairs that a walk over such a map has left
-abbrev pub pairs_left : {V : Type 0} → Option (List (List ℕ × V)) → List (List ℕ × V)
-pairs_left None = []
-pairs_left (Some left) = left

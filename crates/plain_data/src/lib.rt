@@ -2,15 +2,20 @@
 //! the want of memory, and the law by which `==` decides equality.
 #![tactic(auto)]
 
+mod balancing;
 mod boxes;
 mod laws;
 mod lists;
 mod maps;
 mod memory;
 mod pairs;
+mod paths;
 mod sets;
 mod shares;
+#[cfg(test)]
+mod tests;
 mod texts;
+mod trees;
 
 pub use boxes::Boxed;
 pub use laws::{Exact, is_same};

@@ -10,11 +10,10 @@ use crate::memory::OutOfMemory;
 use crate::pairs::Pairs;
 use crate::shares::Shared;
 use crate::texts::Text;
+use crate::trees::Tree;
 use std::alloc::{AllocError, Global};
-use std::collections::BTreeMap;
 use std::fmt;
 use std::marker::Model;
-use std::sync::Arc;
 
 /// A map under text keys, which contracts see as the list of its pairs in byte order of the keys.
 /// Its copies share what they have in common: to copy a map costs the same whatever its size, and a
@@ -22,63 +21,56 @@ use std::sync::Arc;
 #[derive(Drop)]
 pub struct Map<V> {
     alloc: Global,
-    tree: Option<Arc<BTreeMap<Text, Shared<V>>, Global>>,
+    tree: Tree<V>,
 }
 
 impl<V> Model for Map<V> {
     ghost use Rattle.std.specs.Prelude.{List, ℕ};
     ghost use Rattle.std.specs.Coded.{coded_list, coded_ℕ, coded×};
-    ghost use Rattle.plain_data.specs.Pairs.{pairs_shared};
+    ghost use Rattle.plain_data.specs.Pairs.{InOrder};
 
     ghost Value = { List (List ℕ × V) };
 
     ghost coded = { coded_list (coded× (coded_list coded_ℕ) V.code) };
 
-    ghost view = { λ m. pairs_shared m.tree };
+    ghost view = { λ m. m.tree };
+
+    ghost invariant = { λ m. InOrder m.tree };
 }
 
 impl<V> Map<V> {
     /// The empty map. It takes no memory.
+    #[tactic(auto, using(crate::proofs::At::in_order_empty))]
     pub fn new(alloc: Global) -> Map<V>
         ensures { result ≡ [] }
     {
-        Map { alloc, tree: None }
+        Map {
+            alloc,
+            tree: Tree::new(),
+        }
     }
 
     /// The value at a key.
     pub fn get(&self, key: &Text) -> Option<&V>
         ensures { option_copied result ≡ lookup key.now self.now }
     {
-        match &self.tree {
-            None => None,
-            Some(tree) => match tree.get(key) {
-                None => None,
-                Some(value) => Some(value.get()),
-            },
-        }
+        self.tree.get(key)
     }
 
     pub fn contains_key(&self, key: &Text) -> bool
         ensures { result ≡ is_some (lookup key.now self.now) }
     {
-        match &self.tree {
-            None => false,
-            Some(tree) => tree.contains_key(key),
-        }
+        self.get(key).is_some()
     }
 
     /// How many pairs it has.
-    #[tactic(auto, using(crate::proofs::Order::keys_in_order_empty))]
     pub fn len(&self) -> usize
         ensures len { result ≡ length self.now }
 
         // The keys stand in byte order, each once.
         ensures ordered { IsStrictlySortedBy (slice_cmp nat_cmp) (keys_of self.now) }
     {
-        match &self.tree {
-            None => 0,
-            Some(tree) => tree.len(),
-        }
+        self.tree.len()
     }
 
     pub fn is_empty(&self) -> bool
@@ -91,10 +83,7 @@ impl<V> Map<V> {
     pub fn iter(&self) -> Pairs<'_, V>
         ensures { result ≡ self.now }
     {
-        match &self.tree {
-            None => Pairs::over(None),
-            Some(tree) => Pairs::over(Some(tree.iter())),
-        }
+        Pairs::over(&self.tree)
     }
 
     /// An equal map, which shares all that this one has. It asks nothing of the values, and its cost
@@ -102,10 +91,7 @@ impl<V> Map<V> {
     pub fn copy(&self) -> Result<Map<V>, OutOfMemory>
         ensures { IfOk result (λ made. made ≡ self.now) }
     {
-        let tree = match &self.tree {
-            None => None,
-            Some(tree) => Some(Arc::try_clone(tree)?),
-        };
+        let tree = self.tree.share()?;
         Ok(Map {
             alloc: self.alloc,
             tree,
@@ -120,18 +106,8 @@ impl<V: Drop> Map<V> {
         ensures ok { OnOk result (self.new ≡ with key value self.old) }
         ensures err { OnErr result (self.new ≡ self.old) }
     {
-        let value = Shared::new(self.alloc, value)?;
-        match &mut self.tree {
-            None => {
-                let mut tree = BTreeMap::new(self.alloc);
-                tree.insert(key, value)?;
-                self.tree = Some(Arc::new(self.alloc, tree)?);
-            }
-            Some(shared) => {
-                let tree = Arc::make_mut(shared)?;
-                tree.insert(key, value)?;
-            }
-        }
+        let pair = Shared::new(self.alloc, (key, value))?;
+        self.tree = self.tree.with(self.alloc, pair)?;
         Ok(())
     }
 
@@ -141,14 +117,16 @@ impl<V: Drop> Map<V> {
         ensures ok { OnOk result (self.new ≡ without key.now self.old) }
         ensures err { OnErr result (self.new ≡ self.old) }
     {
-        match &mut self.tree {
-            None => {}
-            Some(shared) => {
-                let tree = Arc::make_mut(shared)?;
-                let _ = tree.remove(key);
-            }
-        }
+        self.tree = self.tree.without(self.alloc, key)?;
         Ok(())
+    }
+}
+
+#[cfg(test)]
+impl<V> Map<V> {
+    /// How many pairs stand on the longest way down.
+    pub(crate) fn depth(&self) -> usize {
+        self.tree.depth()
     }
 }
 
@@ -156,10 +134,7 @@ impl<V: Drop> Clone for Map<V> {
     ghost is_clone = { λ a b. b ≡ a };
 
     fn clone(&self) -> Result<Map<V>, AllocError> {
-        let tree = match &self.tree {
-            None => None,
-            Some(tree) => Some(Arc::try_clone(tree)?),
-        };
+        let tree = self.tree.share()?;
         Ok(Map {
             alloc: self.alloc,
             tree,
@@ -173,12 +148,18 @@ impl<V: PartialEq> PartialEq for Map<V> {
     ghost laws = { pairs_per V.laws };
 
     fn eq(&self, other: &Map<V>) -> bool {
-        match (&self.tree, &other.tree) {
-            (None, None) => true,
-            (None, Some(tree)) => tree.is_empty(),
-            (Some(tree), None) => tree.is_empty(),
-            (Some(one), Some(two)) => **one == **two,
+        let mut others = other.iter();
+        for (key, value) in self.iter() {
+            match others.next() {
+                None => return false,
+                Some((name, thing)) => {
+                    if key != name || value != thing {
+                        return false;
+                    }
+                }
+            }
         }
+        others.next().is_none()
     }
 }
 

@@ -1,36 +1,43 @@
 ghost use Rattle.std.specs.Prelude.{◌≡◌, length};
 ghost use Rattle.std.specs.Iterator.{at_most};
-ghost use Rattle.plain_data.specs.Pairs.{pairs_left};
 ghost use Rattle.std.specs.Map.Iter.{TakesFirst, deref_pair};
 
-use crate::shares::Shared;
+use crate::paths::Path;
 use crate::texts::Text;
-use std::collections::btree_map;
+use crate::trees::Tree;
 use std::marker::Model;
 
 /// What is left of a walk over a map: its pairs, in byte order of their keys. It takes no memory.
 #[derive(Drop)]
 pub struct Pairs<'a, V> {
-    left: Option<btree_map::Iter<'a, Text, Shared<V>>>,
+    tree: &'a Tree<V>,
+    next: usize,
+    path: Path<'a, V>,
 }
 
 impl<'a, V> Model for Pairs<'a, V> {
-    ghost use Rattle.std.specs.Prelude.{List, ℕ};
+    ghost use Rattle.std.specs.Prelude.{List, ℕ, drop};
     ghost use Rattle.std.specs.Coded.{coded_list, coded_ℕ, coded×};
-    ghost use Rattle.plain_data.specs.Pairs.{pairs_left};
+    ghost use Rattle.plain_data.specs.Walks.{waiting, AreFirst};
 
     ghost Value = { List (List ℕ × V) };
 
     ghost coded = { coded_list (coded× (coded_list coded_ℕ) V.code) };
 
-    ghost view = { λ p. pairs_left p.left };
+    ghost view = { λ p. drop p.next p.tree.now };
+
+    ghost invariant = { λ p. AreFirst (waiting p.path) (drop p.next p.tree.now) };
 }
 
 impl<'a, V> Pairs<'a, V> {
-    pub(crate) fn over(left: Option<btree_map::Iter<'a, Text, Shared<V>>>) -> Pairs<'a, V>
-        ensures { result ≡ pairs_left left.entry }
+    pub(crate) fn over(tree: &'a Tree<V>) -> Pairs<'a, V>
+        ensures { result ≡ tree.now }
     {
-        Pairs { left }
+        Pairs {
+            tree,
+            next: 0,
+            path: Path::new(),
+        }
     }
 }
 
@@ -42,12 +49,17 @@ impl<'a, V> Iterator for Pairs<'a, V> {
     ghost remaining = { λ s. at_most (length s) };
 
     fn next(&mut self) -> Option<(&'a Text, &'a V)> {
-        match &mut self.left {
+        if self.next >= self.tree.len() {
+            return None;
+        }
+        match self.path.step(self.tree, self.next) {
             None => None,
-            Some(left) => match left.next() {
-                None => None,
-                Some((key, value)) => Some((key, value.get())),
-            },
+            Some(node) => {
+                self.path.down(&node.right);
+                self.next += 1;
+                let pair = node.pair.get();
+                Some((&pair.0, &pair.1))
+            }
         }
     }
 }

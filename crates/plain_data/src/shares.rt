@@ -44,21 +44,3 @@ impl<T: Drop> Shared<T> {
         Ok(Shared { inner })
     }
 }
-
-impl<T: Drop> Clone for Shared<T> {
-    ghost is_clone = { λ a b. b ≡ a };
-
-    fn clone(&self) -> Result<Shared<T>, AllocError> {
-        self.share()
-    }
-}
-
-impl<T: PartialEq> PartialEq for Shared<T> {
-    ghost eq = { T.eq };
-
-    ghost laws = { T.laws };
-
-    fn eq(&self, other: &Shared<T>) -> bool {
-        self.get() == other.get()
-    }
-}

@@ -51,10 +51,13 @@ sent_push p (first ∷ nodes) node c h = (c.0, sent_push p nodes node c.1 h)
 
 later : (n m p q : ℕ) (world : World) → n ≤ m → p ≤ q → IsCounted n p world → IsCounted m q world
 later n m p q world h k c = record {
-    id = let x = c.id in omega arith; version = let x = c.version in omega arith; metadata_version = let x = c.metadata_version in omega arith;
-    state = state_later n m world.state h c.state; proposals = let x = c.proposals in omega arith;
-    sent = sent_later p q world.nodes k c.sent
-  }
+  id = let x = c.id in omega arith;
+  version = let x = c.version in omega arith;
+  metadata_version = let x = c.metadata_version in omega arith;
+  state = state_later n m world.state h c.state;
+  proposals = let x = c.proposals in omega arith;
+  sent = sent_later p q world.nodes k c.sent;
+}
 
 more_sent : (cut : List ℕ → ℕ → Bool) (prev new : ClusterState) (p : ℕ) (reach : Reach) (name : List ℕ) (has : NodeWorld) (in_state away by_diff : Bool)
     → AllByRecursion (λ node. node.sent ≤ p + 1) reach.nodes → has.sent ≤ p
@@ -71,7 +74,7 @@ reach_sent cut prev new p reach [] have c h = c
 reach_sent cut prev new p reach (node ∷ nodes) [] c h = c
 reach_sent cut prev new p reach (node ∷ nodes) (has ∷ more) c h =
     reach_sent cut prev new p (reach_more cut prev new reach node.name has) nodes more
-      (more_sent cut prev new p reach node.name has (is_some (lookup node.name new.nodes)) (cut node.name (has.sent + 1)) (is_sent_diff prev node.name has) c h.0) h.1
+    (more_sent cut prev new p reach node.name has (is_some (lookup node.name new.nodes)) (cut node.name (has.sent + 1)) (is_sent_diff prev node.name has) c h.0) h.1
 
 metadata_rises : (b : Bool) (v : ℕ) → (if b then v else v + 1) ≤ v + 1
 metadata_rises true v = omega arith
@@ -80,28 +83,34 @@ metadata_rises false v = omega arith
 publish_counted : (commits : Bool) (n m p : ℕ) (world : World) (kind : Kind) (count commit : ℕ) (made : ClusterState) (marks : List Mark) (reach : Reach)
     → IsCounted n p world → IsCountedState m made → n ≤ m → AllByRecursion (λ node. node.sent ≤ p + 1) reach.nodes
     → let new = stamped made (world.proposals + 2) (world.state.version + 1) (metadata_version world.state.metadata made.metadata) in
-      IsCounted m (p + 1) (if commits then commit_step world kind commit new marks reach else drop_step world count new reach).world
+    IsCounted m (p + 1) (if commits then commit_step world kind commit new marks reach else drop_step world count new reach).world
 publish_counted true n m p world kind count commit made marks reach c s h r = record {
-    id = let x = c.proposals in omega arith; version = let x = c.version in omega arith;
-    metadata_version = let x = c.metadata_version in let y = metadata_rises (metadata_eq (contents_of world.state.metadata) (contents_of made.metadata)) world.state.metadata.version in omega arith;
-    state = record { term = s.term; created = s.created; indices = s.indices };
-    proposals = let x = c.proposals in omega arith; sent = r
-  }
+  id = let x = c.proposals in omega arith;
+  version = let x = c.version in omega arith;
+  metadata_version = let x = c.metadata_version in let y = metadata_rises (metadata_eq (contents_of world.state.metadata) (contents_of made.metadata)) world.state.metadata.version in omega arith;
+  state = record { term = s.term; created = s.created; indices = s.indices };
+  proposals = let x = c.proposals in omega arith;
+  sent = r;
+}
 publish_counted false n m p world kind count commit made marks reach c s h r = record {
-    id = let x = c.id in omega arith; version = let x = c.version in omega arith; metadata_version = let x = c.metadata_version in omega arith;
-    state = state_later n m world.state h c.state; proposals = let x = c.proposals in omega arith; sent = r
-  }
+  id = let x = c.id in omega arith;
+  version = let x = c.version in omega arith;
+  metadata_version = let x = c.metadata_version in omega arith;
+  state = state_later n m world.state h c.state;
+  proposals = let x = c.proposals in omega arith;
+  sent = r;
+}
 
 next_counted : (same : Bool) (cut : List ℕ → ℕ → Bool) (nodes : List ScriptNode) (n m p : ℕ) (world : World) (kind : Kind) (count commit : ℕ) (made : ClusterState) (marks : List Mark)
     → IsCounted n p world → IsCountedState m made → n ≤ m
     → IsCounted m (p + 1) (next_step cut nodes world kind count commit marks
-        (if same then Same else Changed (stamped made (world.proposals + 2) (world.state.version + 1) (metadata_version world.state.metadata made.metadata)))).world
+    (if same then Same else Changed (stamped made (world.proposals + 2) (world.state.version + 1) (metadata_version world.state.metadata made.metadata)))).world
 next_counted true cut nodes n m p world kind count commit made marks c s h = later n m p (p + 1) world h (omega arith) c
 next_counted false cut nodes n m p world kind count commit made marks c s h =
     let new = stamped made (world.proposals + 2) (world.state.version + 1) (metadata_version world.state.metadata made.metadata) in
     let reach = reach_all cut world.state new reach_none nodes world.nodes in
     publish_counted (does_commit new reach) n m p world kind count commit made marks reach c s h
-      (reach_sent cut world.state new p reach_none nodes world.nodes tt c.sent)
+    (reach_sent cut world.state new p reach_none nodes world.nodes tt c.sent)
 
 office_counted : (refused : Bool) (n m p : ℕ) (world : World) (none some : Stepped) → none.world ≡ world → IsCounted n p world → n ≤ m → IsCounted m (p + 1) some.world
     → IsCounted m (p + 1) (if refused then none else some).world
@@ -119,8 +128,8 @@ pub step_counted : (cut : List ℕ → ℕ → Bool) (nodes : List ScriptNode) (
 unfolding batch_step
 step_counted cut nodes n p world kind tasks commit c =
     office_counted (needs_master kind && not world.in_office) n (n + length tasks) p world _ _ refl c (omega arith)
-      (executed_step_counted cut nodes n (n + length tasks) p world kind (length tasks) commit (executed kind world.state (numbered 0 tasks)) c (omega arith)
-        (executed_counted n kind world.state tasks c.state))
+    (executed_step_counted cut nodes n (n + length tasks) p world kind (length tasks) commit (executed kind world.state (numbered 0 tasks)) c (omega arith)
+    (executed_counted n kind world.state tasks c.state))
 
 -- ---- a history
 
@@ -139,7 +148,7 @@ batch_counted script n p world batch c =
     let tasks = tasks_at script batch.entries in
     let shorter = filter_map_shorter (task_at script) batch.entries in
     later (n + length tasks) (n + length batch.entries) (p + 1) (p + 1) (after script world batch) (omega arith) (omega arith)
-      (step_counted (cut_by script.faults) script.nodes n p world (kind_named script.queues batch.queue) tasks (commit_of batch.result) c)
+    (step_counted (cut_by script.faults) script.nodes n p world (kind_named script.queues batch.queue) tasks (commit_of batch.result) c)
 
 pub placed_count : (batch : Batch) (more : List Placed) → length (placed_in batch ++ more) ≡ length batch.entries + length more
 placed_count batch more = simp (length-append, length-map) refl
@@ -150,8 +159,8 @@ history_counted script [] n p world c = later n (n + 0) p (p + 0) world (omega a
 history_counted script (batch ∷ batches) n p world c =
     let count = placed_count batch (placed_of batches) in
     later (n + length batch.entries + length (placed_of batches)) (n + length (placed_of (batch ∷ batches))) (p + 1 + length batches) (p + length (batch ∷ batches))
-      (fold (after script) (after script world batch) batches) (omega arith) (omega arith)
-      (history_counted script batches (n + length batch.entries) (p + 1) (after script world batch) (batch_counted script n p world batch c))
+    (fold (after script) (after script world batch) batches) (omega arith) (omega arith)
+    (history_counted script batches (n + length batch.entries) (p + 1) (after script world batch) (batch_counted script n p world batch c))
 
 first_sent : (first zero : ClusterState) (nodes : List ScriptNode) → AllByRecursion (λ node. node.sent ≤ 0) (map (first_node first zero) nodes)
 first_sent first zero [] = tt
@@ -162,9 +171,12 @@ pub world_counted : (script : Script) (batches : List Batch) → IsCounted (leng
 unfolding first_world
 world_counted script batches =
     let first : IsCounted 0 0 (first_world script) = record {
-      id = omega arith; version = omega arith; metadata_version = omega arith;
+      id = omega arith;
+      version = omega arith;
+      metadata_version = omega arith;
       state = record { term = omega arith; created = omega arith; indices = tt };
-      proposals = omega arith; sent = first_sent (first_state_of script) (zero_state script.cluster) script.nodes
+      proposals = omega arith;
+      sent = first_sent (first_state_of script) (zero_state script.cluster) script.nodes;
     } in
     later (0 + length (placed_of batches)) (length (placed_of batches)) (0 + length batches) (length batches) (world_after script batches) (omega arith) (omega arith)
-      (history_counted script batches 0 0 (first_world script) first)
+    (history_counted script batches 0 0 (first_world script) first)

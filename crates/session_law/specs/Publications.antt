@@ -53,12 +53,12 @@ missed reach node = record reach { nodes = reach.nodes ++ record node { sent = n
 -- a node that accepts the new state
 abbrev pub reached : ClusterState → Reach → List ℕ → NodeWorld → Bool → Reach
 reached new reach name node by_diff = record {
-    nodes = reach.nodes ++ record { accepted = new; sent = node.sent + 1 } ∷ [];
-    diffs = reach.diffs + one_if by_diff;
-    fulls = reach.fulls + one_if (not by_diff);
-    votes = reach.votes + one_if (is_eligible (lookup name new.nodes));
-    master = reach.master || bytes_eq name new.master
-  }
+  nodes = reach.nodes ++ record { accepted = new; sent = node.sent + 1 } ∷ [];
+  diffs = reach.diffs + one_if by_diff;
+  fulls = reach.fulls + one_if (not by_diff);
+  votes = reach.votes + one_if (is_eligible (lookup name new.nodes));
+  master = reach.master || bytes_eq name new.master;
+}
 
 -- one node more
 abbrev pub reach_more : (List ℕ → ℕ → Bool) → ClusterState → ClusterState → Reach → List ℕ → NodeWorld → Reach

@@ -43,30 +43,36 @@ end_of success mark = end_by success mark.verdict
 -- the world where the new state is committed; a batch that doesn't need the master puts it into office
 abbrev pub committed_world : World → Kind → ClusterState → Reach → World
 committed_world world kind new reach = record {
-    state = new; proposals = world.proposals + 1; in_office = world.in_office || not (needs_master kind); nodes = reach.nodes
-  }
+  state = new;
+  proposals = world.proposals + 1;
+  in_office = world.in_office || not (needs_master kind);
+  nodes = reach.nodes;
+}
 
 -- the world where it is dropped: the master is out of office
 abbrev pub dropped_world : World → Reach → World
 dropped_world world reach = record {
-    state = world.state; proposals = world.proposals + 1; in_office = false; nodes = reach.nodes
-  }
+  state = world.state;
+  proposals = world.proposals + 1;
+  in_office = false;
+  nodes = reach.nodes;
+}
 
 -- the new state is published and committed
 abbrev pub commit_step : World → Kind → ℕ → ClusterState → List Mark → Reach → Stepped
 commit_step world kind commit new marks reach = record {
-    result = result.Published new.version new.id commit reach.diffs reach.fulls (reach.diffs + reach.fulls);
-    ends = map (end_of (end.Ok new.version)) marks;
-    world = committed_world world kind new reach
-  }
+  result = result.Published new.version new.id commit reach.diffs reach.fulls (reach.diffs + reach.fulls);
+  ends = map (end_of (end.Ok new.version)) marks;
+  world = committed_world world kind new reach;
+}
 
 -- too few nodes accepted it, so it is dropped
 abbrev pub drop_step : World → ℕ → ClusterState → Reach → Stepped
 drop_step world count new reach = record {
-    result = result.PublishFailed new.id reach.diffs reach.fulls (reach.diffs + reach.fulls);
-    ends = all_end end.PublishFailed count;
-    world = dropped_world world reach
-  }
+  result = result.PublishFailed new.id reach.diffs reach.fulls (reach.diffs + reach.fulls);
+  ends = all_end end.PublishFailed count;
+  world = dropped_world world reach;
+}
 
 abbrev pub publish_step : World → Kind → ℕ → ℕ → ClusterState → List Mark → Reach → Stepped
 publish_step world kind count commit new marks reach =
@@ -75,16 +81,20 @@ publish_step world kind count commit new marks reach =
 -- the executor made a state of the current one
 abbrev pub next_step : (List ℕ → ℕ → Bool) → List ScriptNode → World → Kind → ℕ → ℕ → List Mark → Next → Stepped
 next_step cut nodes world kind count commit marks Same = record {
-    result = result.Unchanged world.state.version; ends = map (end_of (end.Unchanged world.state.version)) marks; world = world
-  }
+  result = result.Unchanged world.state.version;
+  ends = map (end_of (end.Unchanged world.state.version)) marks;
+  world = world;
+}
 next_step cut nodes world kind count commit marks (Changed new) =
     publish_step world kind count commit new marks (reach_all cut world.state new reach_none nodes world.nodes)
 
 -- the executor ran
 abbrev pub executed_step : (List ℕ → ℕ → Bool) → List ScriptNode → World → Kind → ℕ → ℕ → Executed → Stepped
 executed_step cut nodes world kind count commit (executed.Failed position refusal) = record {
-    result = result.Failed position refusal; ends = all_end (end.BatchFailed position refusal) count; world = world
-  }
+  result = result.Failed position refusal;
+  ends = all_end (end.BatchFailed position refusal) count;
+  world = world;
+}
 executed_step cut nodes world kind count commit (executed.Made state marks) =
     next_step cut nodes world kind count commit marks (next_of world.state state (world.proposals + 2))
 

@@ -27,6 +27,8 @@ first_node first zero node = record { accepted = if node.member then first else 
 
 unfoldable pub first_world : Script → World
 first_world script = record {
-    state = first_state_of script; proposals = 0; in_office = true;
-    nodes = map (first_node (first_state_of script) (zero_state script.cluster)) script.nodes
-  }
+  state = first_state_of script;
+  proposals = 0;
+  in_office = true;
+  nodes = map (first_node (first_state_of script) (zero_state script.cluster)) script.nodes;
+}

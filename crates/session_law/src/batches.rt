@@ -40,10 +40,15 @@ pub enum BatchResult {
     },
 
     /// The contents agreed with those before, so nothing was published; the version is the state's.
-    Unchanged { version: u64 },
+    Unchanged {
+        version: u64,
+    },
 
     /// The executor failed the whole batch, for the task at this place and for this cause.
-    Failed { position: u32, refusal: TaskRefusal },
+    Failed {
+        position: u32,
+        refusal: TaskRefusal,
+    },
 
     /// The master was out of office.
     NotMaster,

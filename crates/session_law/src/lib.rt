@@ -20,3 +20,6 @@ pub use reporting::report_text;
 pub use sessions::Session;
 pub use watchings::{Watch, WatchEnd};
 pub use worlds::{NodeWorld, Reach, Stepped, World};
+
+#[cfg(test)]
+mod tests;

@@ -42,11 +42,7 @@ fn write_entries(out: &mut String, entries: &[Entry]) -> Result<(), OutOfMemory>
     Ok(())
 }
 
-fn write_failure(
-    out: &mut String,
-    position: u32,
-    refusal: TaskRefusal,
-) -> Result<(), OutOfMemory>
+fn write_failure(out: &mut String, position: u32, refusal: TaskRefusal) -> Result<(), OutOfMemory>
     ensures { OnOk result (string_bytes out.new ≡ string_bytes out.old ++ failure_text position refusal) }
 {
     write!(out, "batch_failed {position} {refusal}")?;

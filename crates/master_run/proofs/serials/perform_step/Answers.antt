@@ -11,8 +11,8 @@ add-requires-clause-stays c =
     let script = c.args.script.now in
     let book = c.args.replay.now.book in
     subst (λ (es : List Entry). IsKeptBook script (added script book c.in-Submit.queue es 0)) (sym c.in_ok-entries-in-Submit.ensures)
-      (submit_joins script book c.args.client c.args.step c.in-Submit.queue c.in-Submit.task c.in-Submit.timeout c.in-Submit.ack
-        c.requires.script c.requires.kept (c.requires.step ∙ ap Some c.in-Submit.is) c.requires.before)
+    (submit_joins script book c.args.client c.args.step c.in-Submit.queue c.in-Submit.task c.in-Submit.timeout c.in-Submit.ack
+    c.requires.script c.requires.kept (c.requires.step ∙ ap Some c.in-Submit.is) c.requires.before)
 
 pub returns-in_ok-add-in-Submit-clause-before : goal.returns-in_ok-add-in-Submit-clause-before
 returns-in_ok-add-in-Submit-clause-before c =
@@ -24,7 +24,7 @@ returns-in_ok-add-in-Submit-clause-before c =
 
 pub returns-in_default : goal.returns-in_default
 returns-in_default c = record {
-    performed = perform_other c.args.script.now c.args.client c.args.step c.args.replay.now c.args.next.now c.in_default.not-Submit;
-    kept = c.requires.kept;
-    before = steps_later c.args.client c.args.step (placed_of c.args.replay.now.book.batches) c.requires.before;
-  }
+  performed = perform_other c.args.script.now c.args.client c.args.step c.args.replay.now c.args.next.now c.in_default.not-Submit;
+  kept = c.requires.kept;
+  before = steps_later c.args.client c.args.step (placed_of c.args.replay.now.book.batches) c.requires.before;
+}

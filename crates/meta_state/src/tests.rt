@@ -1,0 +1,319 @@
+use crate::*;
+use plain_data::{NameSet, Text};
+use std::alloc::Global;
+use std::process::Abort;
+use std::test::Fail;
+
+// The least number from which a counter may not rise.
+const TALLEST: u64 = 1 << 63;
+
+fn text(alloc: Global, word: &str) -> Result<Text, Fail> {
+    Ok(Text::from_str(alloc, word)?)
+}
+
+fn node(alloc: Global, name: &str, eligible: bool) -> Result<NodeInfo, Fail> {
+    Ok(NodeInfo {
+        name: text(alloc, name)?,
+        eligible,
+    })
+}
+
+// The first state of the cluster "demo", whose one node is n0.
+fn demo(alloc: Global) -> Result<ClusterState, Fail> {
+    let nodes = vec![in alloc; node(alloc, "n0", true)?]?;
+    Ok(ClusterState::first(alloc, &text(alloc, "demo")?, &nodes)?)
+}
+
+// The same of three nodes, two of which have one name.
+fn demo_of_three(alloc: Global) -> Result<ClusterState, Fail> {
+    let mut nodes = Vec::new(alloc);
+    for (name, eligible) in [("n0", true), ("n1", true), ("n0", false)] {
+        nodes.push(node(alloc, name, eligible)?)?;
+    }
+    Ok(ClusterState::first(alloc, &text(alloc, "demo")?, &nodes)?)
+}
+
+fn zero(alloc: Global) -> Result<ClusterState, Fail> {
+    Ok(ClusterState::zero(alloc, &text(alloc, "demo")?)?)
+}
+
+// An index as it is created first.
+fn index(alloc: Global) -> IndexMetadata {
+    IndexMetadata {
+        id: 1,
+        version: 1,
+        settings_version: 1,
+        aliases_version: 1,
+        opened: true,
+        shards: 1,
+        replicas: 1,
+        aliases: NameSet::new(alloc),
+    }
+}
+
+fn put_node(
+    alloc: Global,
+    state: &mut ClusterState,
+    name: &str,
+    eligible: bool,
+) -> Result<(), Fail> {
+    Ok(
+        state
+            .nodes
+            .set(text(alloc, name)?, node(alloc, name, eligible)?)?,
+    )
+}
+
+fn put_setting(
+    alloc: Global,
+    state: &mut ClusterState,
+    key: &str,
+    value: &str,
+) -> Result<(), Fail> {
+    Ok(
+        state
+            .metadata
+            .settings
+            .set(text(alloc, key)?, text(alloc, value)?)?,
+    )
+}
+
+fn put_index(
+    alloc: Global,
+    state: &mut ClusterState,
+    name: &str,
+    index: IndexMetadata,
+) -> Result<(), Fail> {
+    Ok(state.metadata.indices.set(text(alloc, name)?, index)?)
+}
+
+// One letter so many times.
+fn letters(alloc: Global, letter: &str, count: usize) -> Result<String, Fail> {
+    let mut name = String::new(alloc);
+    for _ in 0..count {
+        name.push_str(letter)?;
+    }
+    Ok(name)
+}
+
+fn rule_of(name: &str) -> u8 {
+    match check_index_name(name) {
+        Ok(()) => 0,
+        Err(invalid) => invalid.rule,
+    }
+}
+
+#[test]
+fn a_name_is_judged_by_the_first_rule_that_it_breaks(rt: HostRuntime) -> Result<(), Fail> {
+    let alloc = rt.alloc();
+    // a name, and the rule that it breaks; 0 is none
+    let table: [(&str, u8); 38] = [
+        ("logs-1", 0),
+        ("a", 0),
+        ("0", 0),
+        ("...", 0),
+        (".a", 0),
+        ("a_-+", 0),
+        ("!@[~", 0),
+        ("", 1),
+        (".", 3),
+        ("..", 3),
+        ("_a", 4),
+        ("-a", 4),
+        ("+a", 4),
+        ("_", 4),
+        ("a\\b", 5),
+        ("a/b", 5),
+        ("a*", 5),
+        ("a?", 5),
+        ("a\"b", 5),
+        ("<a", 5),
+        (">a", 5),
+        ("a|b", 5),
+        ("a,b", 5),
+        ("#a", 5),
+        ("a:b", 5),
+        ("a b", 5),
+        ("aA", 6),
+        ("Z", 6),
+        ("é", 7),
+        ("a\tb", 7),
+        ("a\u{7f}", 7),
+        ("_*", 4),
+        ("-A", 4),
+        ("A*", 5),
+        ("é*", 5),
+        ("éA", 6),
+        ("A\n", 6),
+        ("._", 0),
+    ];
+    for (name, rule) in table {
+        assert_eq!(rt; rule_of(name), rule, "at {name}");
+    }
+    // a letter, how often it stands, and the rule
+    let table: [(&str, usize, u8); 4] = [
+        ("a", 255, 0),
+        ("a", 256, 2),
+        ("_", 256, 2),
+        ("é", 127, 7),
+    ];
+    for (letter, count, rule) in table {
+        let name = letters(alloc, letter, count)?;
+        assert_eq!(rt; rule_of(name.as_str()), rule, "at {count} times {letter}");
+    }
+    Ok(())
+}
+
+fn height(place: u64, at: u64) -> u64 {
+    if place == at { TALLEST } else { TALLEST - 1 }
+}
+
+// One counter stands at 2^63, and each other one below.
+fn grow(alloc: Global, state: &mut ClusterState, place: u64) -> Result<(), Fail> {
+    state.id = height(place, 0);
+    state.term = height(place, 1);
+    state.version = height(place, 2);
+    state.metadata.version = height(place, 3);
+    state.metadata.created = height(place, 4);
+    let mut grown = index(alloc);
+    grown.version = height(place, 5);
+    grown.settings_version = height(place, 6);
+    grown.aliases_version = height(place, 7);
+    put_index(alloc, state, "b", grown)
+}
+
+fn is_roomy(alloc: Global, place: u64) -> Result<bool, Fail> {
+    let mut state = demo(alloc)?;
+    put_index(alloc, &mut state, "a", index(alloc))?;
+    grow(alloc, &mut state, place)?;
+    Ok(state.roomy())
+}
+
+#[test]
+fn a_state_is_roomy_where_each_counter_can_rise(rt: HostRuntime) -> Result<(), Fail> {
+    // which counter stands at 2^63; at 8 none does
+    for place in 0u64..9 {
+        let roomy = is_roomy(rt.alloc(), place)?;
+        assert!(rt; roomy == (place == 8), "at {place}");
+    }
+    Ok(())
+}
+
+// What an executor might make of a state: equal contents under other numbers, or a change.
+fn change(alloc: Global, state: &mut ClusterState, way: u64) -> Result<(), Fail> {
+    state.id = 7;
+    state.version = 8;
+    match way {
+        0 => state.metadata.version = 9,
+        1 => state.term = 2,
+        2 => put_node(alloc, state, "n1", true)?,
+        3 => put_setting(alloc, state, "k", "v")?,
+        _ => put_index(alloc, state, "logs-1", index(alloc))?,
+    }
+    Ok(())
+}
+
+// Which identifier, term, version and metadata version the state has that is published, if one is.
+fn published(rt: &impl Abort, alloc: Global, way: u64) -> Result<Option<[u64; 4]>, Fail> {
+    let mut prev = demo(alloc)?;
+    prev.version = 41;
+    prev.metadata.version = 30;
+    let mut made = prev.copy(alloc)?;
+    change(alloc, &mut made, way)?;
+    assert!(rt; prev.roomy());
+    match next_state(&prev, made, 5) {
+        Next::Same => Ok(None),
+        Next::Changed(next) => Ok(Some([next.id, next.term, next.version, next.metadata.version])),
+    }
+}
+
+#[test]
+fn versions_rise_with_contents_alone(rt: HostRuntime) -> Result<(), Fail> {
+    // a change, and the numbers that follow
+    let table: [(u64, Option<[u64; 4]>); 5] = [
+        (0, None),
+        (1, Some([5, 2, 42, 30])),
+        (2, Some([5, 1, 42, 30])),
+        (3, Some([5, 1, 42, 31])),
+        (4, Some([5, 1, 42, 31])),
+    ];
+    for (way, wanted) in table {
+        let numbers = published(&rt, rt.alloc(), way)?;
+        assert!(rt; numbers == wanted, "after change {way}");
+    }
+    Ok(())
+}
+
+const ZERO: &str =
+    r#"{"cluster":"demo","id":0,"master":"","metadata":{"created":0,"indices":{},"settings":{},"version":0},"nodes":{},"term":0,"version":0}"#;
+
+const FIRST: &str =
+    r#"{"cluster":"demo","id":1,"master":"n0","metadata":{"created":0,"indices":{},"settings":{},"version":1},"nodes":{"n0":{"eligible":true}},"term":1,"version":1}"#;
+
+const THREE: &str =
+    r#"{"cluster":"demo","id":1,"master":"n0","metadata":{"created":0,"indices":{},"settings":{},"version":1},"nodes":{"n0":{"eligible":false},"n1":{"eligible":true}},"term":1,"version":1}"#;
+
+const CREATED: &str =
+    r#"{"cluster":"demo","id":1,"master":"n0","metadata":{"created":1,"indices":{"logs-1":{"aliases":[],"aliases_version":1,"id":1,"open":true,"replicas":1,"settings_version":1,"shards":1,"version":1}},"settings":{},"version":1},"nodes":{"n0":{"eligible":true}},"term":1,"version":1}"#;
+
+const FULL: &str =
+    r#"{"cluster":"demo","id":11,"master":"n0","metadata":{"created":14,"indices":{"logs-0":{"aliases":["a","b"],"aliases_version":6,"id":3,"open":false,"replicas":0,"settings_version":5,"shards":7,"version":4},"logs-1":{"aliases":[],"aliases_version":1,"id":1,"open":true,"replicas":1,"settings_version":1,"shards":1,"version":1}},"settings":{"k1":"a \"b\" \\ \n","k2":"é"},"version":13},"nodes":{"m":{"eligible":false},"n0":{"eligible":true}},"term":12,"version":18446744073709551615}"#;
+
+fn created(alloc: Global) -> Result<ClusterState, Fail> {
+    let mut state = demo(alloc)?;
+    state.metadata.created = 1;
+    put_index(alloc, &mut state, "logs-1", index(alloc))?;
+    Ok(state)
+}
+
+// An index whose numbers all differ, with two aliases.
+fn other_index(alloc: Global) -> Result<IndexMetadata, Fail> {
+    let mut aliases = NameSet::new(alloc);
+    aliases.insert(text(alloc, "b")?)?;
+    aliases.insert(text(alloc, "a")?)?;
+    Ok(IndexMetadata {
+        id: 3,
+        version: 4,
+        settings_version: 5,
+        aliases_version: 6,
+        opened: false,
+        shards: 7,
+        replicas: 0,
+        aliases,
+    })
+}
+
+// Numbers that all differ, and two of each kind.
+fn fill(alloc: Global, state: &mut ClusterState) -> Result<(), Fail> {
+    state.id = 11;
+    state.term = 12;
+    state.version = 18446744073709551615;
+    state.metadata.version = 13;
+    state.metadata.created = 14;
+    put_index(alloc, state, "logs-0", other_index(alloc)?)?;
+    put_setting(alloc, state, "k2", "é")?;
+    put_setting(alloc, state, "k1", "a \"b\" \\ \n")?;
+    put_node(alloc, state, "m", false)
+}
+
+fn full(alloc: Global) -> Result<ClusterState, Fail> {
+    let mut state = created(alloc)?;
+    fill(alloc, &mut state)?;
+    Ok(state)
+}
+
+fn expect(rt: &impl Abort, alloc: Global, state: &ClusterState, wanted: &str) -> Result<(), Fail> {
+    let copy = state.copy(alloc)?;
+    assert_eq!(rt; to_json(alloc, &copy)?.as_str(), wanted);
+    Ok(())
+}
+
+#[test]
+fn a_state_is_spelled_with_its_members_in_byte_order(rt: HostRuntime) -> Result<(), Fail> {
+    let alloc = rt.alloc();
+    expect(&rt, alloc, &zero(alloc)?, ZERO)?;
+    expect(&rt, alloc, &demo(alloc)?, FIRST)?;
+    expect(&rt, alloc, &demo_of_three(alloc)?, THREE)?;
+    expect(&rt, alloc, &created(alloc)?, CREATED)?;
+    expect(&rt, alloc, &full(alloc)?, FULL)
+}

@@ -1,0 +1,5 @@
+use Rattle.plain_data.proofs.At.{in_order_with}
+use Rattle.plain_data.proofs.maps.Map.set.Goals as goal
+
+pub invariant_of-self : goal.invariant_of-self
+invariant_of-self g c = in_order_with _ _ _ _ c.self.invariant c.in_ok-self-inside.ensures

@@ -1,0 +1,4 @@
+mod Apart
+mod Utf8
+mod Valid
+mod Views

@@ -1,0 +1,27 @@
+-- What a list's values and an object's members say, one by one.
+use Rattle.std.proofs.Common.{◌≡◌, ℕ, List, [], ◌∷◌, refl, ap}
+use Rattle.std.specs.Prelude.{String, string_bytes, bytes_eq, map, ◌||◌, Bool}
+use Rattle.std.specs.Borrow.{Bor}
+use Rattle.std.specs.List.{list_all, list_any}
+use Rattle.std.specs.Map.{keys_of}
+use Rattle.std.specs.declared.alloc.Global.{Global}
+use Rattle.serde_json.specs.Data.{Data}
+use Rattle.serde_json.specs.View.{view, items_of, items_view, members_view}
+use Rattle.serde_json.specs.declared.value.Value.{Value}
+use Rattle.script_form.specs.Parts.{items_list, are_known}
+
+items_list-items_of : (ds : List Data) → items_list (items_of ds) ≡ ds
+items_list-items_of [] = refl
+items_list-items_of (d ∷ ds) = ap (λ (es : List Data). d ∷ es) (items_list-items_of ds)
+
+pub items_list_view : (values : List Value) → items_list (items_view values) ≡ map view values
+items_list_view values = items_list-items_of (map view values)
+
+list_any-map : {A B : Type 0} (test : B → Bool) (f : A → B) (xs : List A) → list_any test (map f xs) ≡ list_any (λ a. test (f a)) xs
+list_any-map test f [] = refl
+list_any-map test f (x ∷ xs) = ap (λ (b : Bool). test (f x) || b) (list_any-map test f xs)
+
+pub known_keys : (known : List (Bor (List ℕ))) (members : List (String Global × Value))
+    → are_known (map (λ k. k.now) known) (members_view members) ≡ list_all (λ key. list_any (λ name. bytes_eq (string_bytes key) name.now) known) (keys_of members)
+known_keys known [] = refl
+known_keys known (m ∷ ms) = rw (list_any-map (bytes_eq (string_bytes m.0)) (λ (k : Bor (List ℕ)). k.now) known, known_keys known ms) refl
