@@ -102,13 +102,15 @@ fn create(alloc: Global, index: &str, shards: u64, replicas: u64) -> Result<Task
     })
 }
 
-#[tactic(auto, using(crate::proofs::Taking::taken_each))]
 fn are_taken(contexts: &[TaskContext]) -> bool
     ensures { result ≡ list_all (accepts CreateIndex) (tasks_of contexts.now) }
 {
-    contexts
-        .iter()
-        .all(|context| Kind::CreateIndex.accepts(context.task()))
+    for context in contexts {
+        if !Kind::CreateIndex.accepts(context.task()) {
+            return false;
+        }
+    }
+    true
 }
 
 // What the tasks make of a state.

@@ -2,3 +2,4 @@ pub mod Bounds
 pub mod Keeping
 pub mod Orders
 pub mod Taken
+pub mod Voters

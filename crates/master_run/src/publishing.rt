@@ -158,12 +158,15 @@ pub(crate) fn commits(new: &ClusterState, reach: &Reach) -> bool
     reach.master && count_voters(&new.nodes) < reach.votes + reach.votes
 }
 
-/// How many nodes of a state count for the majority.
+/// How many nodes of a state count for the majority. There are no more than nodes.
+#[tactic(auto, using(crate::proofs::Voters::electorate_fits))]
 fn count_voters(nodes: &Map<NodeInfo>) -> u64
     ensures { result ≡ electorate nodes.now }
 {
+    let most = nodes.len();
     let mut count: u64 = 0;
     for (_, node) in nodes.iter() {
+        prove!(count as usize <= most);
         if node.eligible {
             count += 1;
         }

@@ -1,0 +1,9 @@
+-- No more nodes vote than there are.
+use Rattle.std.specs.Prelude.{◌≡◌, ℕ, ◌+◌, ◌≤◌, Bool, true, false, List, [], ◌∷◌, length, count_by}
+use Rattle.std.proofs.Common.{arith}
+use Rattle.meta_state.specs.declared.nodes.NodeInfo.{NodeInfo}
+use Rattle.session_law.specs.Publications.{electorate}
+use Rattle.std.proofs.lemmas.List.Sums.{count_by-le-length}
+
+pub electorate_fits : (nodes : List (List ℕ × NodeInfo)) → electorate nodes ≤ length nodes
+electorate_fits nodes = count_by-le-length (λ (p : List ℕ × NodeInfo). p.1.eligible) nodes
