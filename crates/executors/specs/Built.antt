@@ -1,26 +1,39 @@
--- What is built so far: which scripts a replay performs. Each later stage shortens this list by what it builds.
-use Rattle.std.specs.Prelude.{◌≡◌, ℕ, ◌≤◌, Bool, false, ◌&&◌, [], Some, None, Option, length, slice_get, IsTrue, is_none}
+-- What is built so far: a replay performs a script that holds nothing else. This is the one list of it; each later
+-- stage takes a line of it away. It is this project's own.
+use Rattle.std.specs.Prelude.{ℕ, Bool, true, false, ◌&&◌, ◌==◌, Some, None, Option, length, nat_le, slice_get, IsTrue, is_none}
 use Rattle.std.specs.List.{list_all}
+use Rattle.executors.specs.declared.kinds.Kind.{Kind}
+use Rattle.executors.specs.declared.kinds.Kind.TheVariants as kind
 use Rattle.executors.specs.declared.queues.QueueSpec.{QueueSpec}
 use Rattle.executors.specs.declared.scripts.Script.{Script}
 use Rattle.executors.specs.declared.steps.Step.{Step}
-use Rattle.executors.specs.declared.steps.Step.TheVariants.{Submit}
-use Rattle.executors.specs.declared.tasks.Task.{Task}
-use Rattle.executors.specs.Kinds.{accepts}
+use Rattle.executors.specs.declared.steps.Step.TheVariants as step
 
--- whether a queue's executor takes a task
-abbrev pub is_taken : Task → Option QueueSpec → Bool
-is_taken task None = false
-is_taken task (Some queue) = accepts queue.executor task
+-- the executors whose tasks are performed
+abbrev pub is_built_kind : Kind → Bool
+is_built_kind kind.CreateIndex = true
+is_built_kind _ = false
 
--- a submit that waits for ever and asks for no acknowledgement
+abbrev pub is_built_queue : Option QueueSpec → Bool
+is_built_queue None = false
+is_built_queue (Some queue) = is_built_kind queue.executor
+
+-- the steps that are performed: a submit waits for ever and asks for no acknowledgement
 abbrev pub is_built_step : Script → Step → Bool
-is_built_step script (Submit queue task timeout ack) = is_taken task (slice_get script.queues queue) && (is_none timeout && is_none ack)
-is_built_step script _ = false
+is_built_step script (step.Submit queue task timeout ack) = is_built_queue (slice_get script.queues queue) && (is_none timeout && is_none ack)
+is_built_step script (step.Await earlier goal) = false
+is_built_step script (step.Watch node pred thens timeout) = false
+is_built_step script (step.Next watch pred thens timeout) = false
+is_built_step script (step.Read node look) = false
+is_built_step script (step.Sleep ms) = false
+is_built_step script step.Close = false
 
-pub record IsBuilt (script : Script) : Type 0 where
-  pub steps : IsTrue (list_all (list_all (is_built_step script)) script.clients)
-  pub one_client : length script.clients ≤ 1
-  pub one_node : length script.nodes ≡ 1
-  pub no_faults : script.faults ≡ []
-  pub no_schedule : script.schedule ≡ []
+abbrev pub is_built : Script → Bool
+is_built script =
+    nat_le (length script.nodes) 1 &&
+    (nat_le (length script.clients) 1 &&
+    (list_all (list_all (is_built_step script)) script.clients &&
+    ((length script.faults == 0) && (length script.schedule == 0))))
+
+abbrev pub IsBuilt : Script → Type 0
+IsBuilt script = IsTrue (is_built script)
