@@ -11,7 +11,7 @@ use Rattle.executors.specs.declared.scripts.Script.{Script}
 use Rattle.executors.specs.declared.steps.Step.{Step}
 use Rattle.executors.specs.declared.steps.Step.TheVariants.{Submit, Await, Watch, Next, Read, Sleep, Close}
 use Rattle.executors.specs.declared.tasks.Task.{Task}
-use Rattle.executors.specs.Built.{IsBuilt, is_built_step, is_taken}
+use Rattle.script_form.specs.Built.{IsBuilt, is_built_step, is_taken}
 use Rattle.executors.specs.Kinds.{accepts}
 use Rattle.executors.specs.Scripts.{IsScript}
 use Rattle.session_law.specs.declared.batches.Batch.{Batch}

@@ -1,5 +1,5 @@
 ghost use Rattle.std.specs.Prelude.{◌≡◌, ◌≤◌, ◌+◌, [], ◌∷◌, ◌++◌, IfOk, OnOk, Some, length, map, slice_get};
-ghost use Rattle.executors.specs.Built.{IsBuilt};
+ghost use Rattle.script_form.specs.Built.{IsBuilt};
 ghost use Rattle.executors.specs.Scripts.{IsScript};
 ghost use Rattle.session_law.specs.Histories.{step_at};
 ghost use Rattle.master_run.specs.Books.{IsKeptBook};

@@ -30,4 +30,3 @@ pub is_submit_valid : (nodes : List ScriptNode) (queues : List QueueSpec) (queue
 is_submit_valid nodes queues queue executor made ms ack there valid time asked =
     and_both (queue_at (cast nodes queues []) made executor (slice_get queues queue) there (task_for (cast nodes [] []) (cast nodes queues []) refl executor made valid))
     (and_both (timeout_valid ms time) asked)
-

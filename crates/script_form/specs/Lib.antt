@@ -1,3 +1,4 @@
+pub mod Built
 pub mod Casts
 pub mod Clients
 pub mod Faults

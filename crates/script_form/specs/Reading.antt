@@ -3,7 +3,7 @@ use Rattle.std.specs.Prelude.{◌≡◌, ℕ, ◌*◌, ◌≤◌, ◌==◌, Bool
 use Rattle.std.specs.List.{list_all}
 use Rattle.serde_json.specs.Data.{Data}
 use Rattle.executors.specs.declared.scripts.Script.{Script}
-use Rattle.executors.specs.Built.{is_built}
+use Rattle.script_form.specs.Built.{is_built}
 use Rattle.executors.specs.Scripts.{alias_reads, are_faults_distinct, is_client, is_fault, is_name, is_turn, submits}
 use Rattle.script_form.specs.Casts.{cast}
 use Rattle.script_form.specs.declared.limits.LimitName.TheVariants.{Work}

@@ -74,11 +74,7 @@ fn asked_in(
 }
 
 /// The asked nodes, one after the other.
-fn each_asked(
-    alloc: Global,
-    nodes: &[ScriptNode],
-    values: &[Value],
-) -> Result<Items<Text>, Misfit>
+fn each_asked(alloc: Global, nodes: &[ScriptNode], values: &[Value]) -> Result<Items<Text>, Misfit>
     ensures exact { Reads (λ a. a) result (each (next_asked nodes.now) [] (map view values.now)) }
     ensures valid { IfOk result (λ asked. IsTrue (are_asked (cast nodes.now [] []) asked)) }
 {

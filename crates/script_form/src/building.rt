@@ -1,7 +1,7 @@
 ghost use Rattle.std.specs.Prelude.{◌≡◌};
 ghost use Rattle.std.specs.List.{list_all};
 ghost use Rattle.std.specs.Option.{option_copied};
-ghost use Rattle.executors.specs.Built.{is_built, is_built_kind, is_built_queue, is_built_step};
+ghost use Rattle.script_form.specs.Built.{is_built, is_built_kind, is_built_queue, is_built_step};
 
 use executors::{Kind, QueueSpec, Script, Step};
 use plain_data::Items;
@@ -41,9 +41,7 @@ fn is_step_built(script: &Script, step: &Step) -> bool
             timeout,
             ack,
         } => {
-            is_queue_built(script.queues.get(*queue as usize))
-                && timeout.is_none()
-                && ack.is_none()
+            is_queue_built(script.queues.get(*queue as usize)) && timeout.is_none() && ack.is_none()
         }
         _ => false,
     }

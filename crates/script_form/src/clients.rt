@@ -71,11 +71,7 @@ fn next_client_in(
     ensures valid { IfOk result (λ steps. IsTrue (is_client (cast nodes.now queues.now []) steps)) }
     ensures close { IfOk result (IsClosedOnce closed) }
 {
-    in_place(
-        alloc,
-        place,
-        steps_in(alloc, nodes, queues, closed, value),
-    )
+    in_place(alloc, place, steps_in(alloc, nodes, queues, closed, value))
 }
 
 /// The steps of a client.

@@ -33,11 +33,7 @@ pub(crate) fn faults_in(
 }
 
 /// The faults, one after the other.
-fn each_fault(
-    alloc: Global,
-    nodes: &[ScriptNode],
-    values: &[Value],
-) -> Result<Items<Fault>, Misfit>
+fn each_fault(alloc: Global, nodes: &[ScriptNode], values: &[Value]) -> Result<Items<Fault>, Misfit>
     ensures exact { Reads (λ f. f) result (each (next_fault nodes.now) [] (map view values.now)) }
     ensures count { IfOk result (λ faults. length faults ≡ length values.now) }
     ensures valid { IfOk result (λ faults. IsTrue (list_all (is_fault (cast nodes.now [] [])) faults)) }
@@ -88,9 +84,7 @@ fn fit_fault_in(
 fn has_fault(faults: &[Fault], fault: &Fault) -> bool
     ensures { result ≡ list_any (is_same_place fault.now) faults.now }
 {
-    faults
-        .iter()
-        .any(|other| fault.node == other.node && fault.publication == other.publication)
+    faults.iter().any(|other| fault.node == other.node && fault.publication == other.publication)
 }
 
 #[tactic(auto, unfolding(crate::specs::Faults::fault_of))]

@@ -88,11 +88,7 @@ fn node_in(alloc: Global, value: &Value) -> Result<ScriptNode, Misfit>
 }
 
 /// Asks that a node have a name of its own, and that the first be fit to be the master.
-fn check_node(
-    alloc: Global,
-    before: &[ScriptNode],
-    node: ScriptNode,
-) -> Result<ScriptNode, Misfit>
+fn check_node(alloc: Global, before: &[ScriptNode], node: ScriptNode) -> Result<ScriptNode, Misfit>
     requires { IsTrue (is_name node.name) }
     ensures exact { Reads (λ n. n) result (fit_node before.now node) }
     ensures new { IfOk result (IsNewTo node_name before.now) }

@@ -7,7 +7,7 @@ ghost use Rattle.script_form.specs.Parts.{are_known, data_of, flag_of, list_of, 
 ghost use Rattle.script_form.specs.Parts as spec;
 
 use crate::limits::LimitName;
-use crate::misfits::{Misfit, in_member, against, too_many};
+use crate::misfits::{Misfit, against, in_member, too_many};
 use crate::rules::Rule;
 use plain_data::{OutOfMemory, Text};
 use serde_json::{Map, Value};
@@ -197,12 +197,7 @@ pub(crate) fn flag_or(
 }
 
 /// A whole number that may be left out.
-pub(crate) fn whole_or(
-    alloc: Global,
-    value: &Value,
-    key: &str,
-    default: u64,
-) -> Result<u64, Misfit>
+pub(crate) fn whole_or(alloc: Global, value: &Value, key: &str, default: u64) -> Result<u64, Misfit>
     ensures { Reads (λ n. n) result (optional key.now default whole_of (view value.now)) }
 {
     match value.get(key) {

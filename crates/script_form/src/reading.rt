@@ -2,7 +2,7 @@ ghost use Rattle.std.specs.Prelude.{◌≡◌, ◌≤◌, [], IfOk, IsTrue, code
 ghost use Rattle.std.specs.List.{list_all};
 ghost use Rattle.serde_json.specs.View.{view};
 ghost use Rattle.executors.specs.Scripts.{IsScript, are_faults_distinct, is_fault, is_turn};
-ghost use Rattle.executors.specs.Built.{IsBuilt};
+ghost use Rattle.script_form.specs.Built.{IsBuilt};
 ghost use Rattle.script_form.specs.Casts.{cast};
 ghost use Rattle.script_form.specs.Faults.{faults_of};
 ghost use Rattle.script_form.specs.Misfits.{Reads};

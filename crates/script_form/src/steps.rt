@@ -13,7 +13,10 @@ ghost use Rattle.script_form.specs.Steps.{await_of, close_of, earlier_of, fit_aw
 use crate::acks::ack_or_none;
 use crate::misfits::{Misfit, against, in_member};
 use crate::nodes::node_named_in;
-use crate::parts::{any_text_in, check_members, check_object, member, positive_in, text_in, time_in, time_or_zero, whole_in};
+use crate::parts::{
+    any_text_in, check_members, check_object, member, positive_in, text_in, time_in, time_or_zero,
+    whole_in,
+};
 use crate::predicates::{outer_pred_in, thens_in};
 use crate::queues::queue_named_in;
 use crate::rules::Rule;

@@ -205,11 +205,7 @@ fn node_turn_of(alloc: Global, nodes: &[ScriptNode], rest: &[u8]) -> Result<Scri
 }
 
 #[tactic(auto, using(crate::proofs::Names::is_node_found))]
-fn node_turn_by_name(
-    alloc: Global,
-    nodes: &[ScriptNode],
-    name: &[u8],
-) -> Result<ScriptTurn, Misfit>
+fn node_turn_by_name(alloc: Global, nodes: &[ScriptNode], name: &[u8]) -> Result<ScriptTurn, Misfit>
     ensures exact { Reads (λ t. t) result (node_turn (find_node nodes.now name.now)) }
     ensures valid { IfOk result (λ turn. IsTrue (is_turn (cast nodes.now [] []) turn)) }
 {
