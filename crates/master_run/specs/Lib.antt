@@ -1,5 +1,9 @@
 pub mod Books
-pub mod Order
 pub mod Outcomes
 pub mod Replays
+pub mod Rests
 pub mod Rooms
+pub mod Soundness
+pub mod Tellings
+pub mod Turns
+pub mod Waitings
