@@ -1,6 +1,7 @@
 -- Lists that are at their end: a position that isn't there is 0, and where no end is left nobody is told.
-use Rattle.std.specs.Prelude.{◌≡◌, ℕ, zero, suc, List, [], ◌∷◌, Option, Some, None, slice_get, refl}
-use Rattle.std.proofs.Common.{sym}
+use Rattle.std.specs.Prelude.{◌≡◌, ℕ, zero, suc, List, [], ◌∷◌, length, Option, Some, None, Result, Ok, Err, OnOk, slice_get, refl}
+use Rattle.std.proofs.Common.{sym, arith}
+use Rattle.executors.specs.declared.ends.TaskEnd.{TaskEnd}
 use Rattle.master_run.specs.declared.waitings.Waiting.{Waiting}
 use Rattle.master_run.specs.Tellings.{Tellings, told_all}
 use Rattle.master_run.specs.Turns.{next_at}
@@ -16,6 +17,12 @@ next_some [] client position e = absurd (no_some position e)
 next_some (p ∷ positions) zero position e = sym (some_same p position e)
 next_some (p ∷ positions) (suc client) position e = next_some positions client position e
 
-pub told_over : (told : Tellings) (tasks : List Waiting) → told_all told tasks [] ≡ told
-told_over told [] = refl
-told_over told (waiting ∷ more) = refl
+pub told_over : (told : Tellings) (tasks : List Waiting) (ends : List TaskEnd) (made : Tellings) → length ends ≡ 0 → told_all told tasks ends ≡ made → told ≡ made
+told_over told [] ends made none all = all
+told_over told (waiting ∷ more) [] made none all = all
+told_over told (waiting ∷ more) (end ∷ ends) made none all = absurd (omega arith)
+
+-- what an `Ok` carries
+pub on_ok_by : {T E : Type 0} (r : Result T E) (P Q : Type 0) → (P → Q) → OnOk r P → OnOk r Q
+on_ok_by (Ok _) P Q f p = f p
+on_ok_by (Err _) P Q f p = tt

@@ -4,6 +4,7 @@ pub mod Edges
 pub mod Keeping
 pub mod Resting
 pub mod Serving
+pub mod Single
 pub mod Submitting
 pub mod Taken
 pub mod Voters

@@ -43,7 +43,7 @@ round_sound script replay valid sound =
 
 -- ---- what is left to do
 
-pub steps_left : List (List Step) → List ℕ → ℕ
+unfoldable pub steps_left : List (List Step) → List ℕ → ℕ
 steps_left [] positions = 0
 steps_left (steps ∷ more) [] = 0
 steps_left (steps ∷ more) (position ∷ positions) = (length steps - position) + steps_left more positions

@@ -3,6 +3,7 @@ pub mod Outcomes
 pub mod Replays
 pub mod Rests
 pub mod Rooms
+pub mod Singles
 pub mod Soundness
 pub mod Tellings
 pub mod Turns

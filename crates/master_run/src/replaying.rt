@@ -76,7 +76,7 @@ impl Replay {
 
     /// A client's turn: it performs its next step. At its end it does nothing, nor does it at a step that isn't
     /// performed yet.
-    #[tactic(auto, using(crate::proofs::Submitting::turned_by_client, crate::proofs::Submitting::position_few))]
+    #[tactic(auto, using(crate::proofs::Submitting::position_few))]
     fn client_turn(&mut self, script: &Script, client: u32) -> Result<(), OutOfMemory>
         requires script { IsScript script.now }
         requires sound { IsSound script.now self.old }

@@ -3,6 +3,7 @@ ghost use Rattle.executors.specs.Built.{IsBuilt};
 ghost use Rattle.executors.specs.Scripts.{IsScript, all_steps};
 ghost use Rattle.master_run.specs.Replays.{most_rounds, performed, replayed, rounds};
 ghost use Rattle.master_run.specs.Rests.{IsAtRest};
+ghost use Rattle.master_run.specs.Singles.{AreSingles};
 ghost use Rattle.master_run.specs.Soundness.{IsSound};
 
 use crate::replaying::Replay;
@@ -16,7 +17,7 @@ pub struct SerialCore;
 
 impl SerialCore {
     /// The session that the serial rule makes of a script.
-    #[tactic(auto, using(crate::proofs::Resting::comes_to_rest), unfolding(crate::specs::Replays::replayed))]
+    #[tactic(auto, using(crate::proofs::Resting::comes_to_rest, crate::proofs::Single::are_singles), unfolding(crate::specs::Replays::replayed))]
     pub fn run(alloc: Global, script: &Script) -> Result<Session, OutOfMemory>
         requires script { IsScript script.now }
         requires built { IsBuilt script.now }
@@ -24,6 +25,9 @@ impl SerialCore {
 
         // Where the rounds end, nothing waits and no client has a step left.
         ensures rested { IsAtRest script.now (performed script.now) }
+
+        // Where no second client comes between, each submit is a batch of its own, at moment 0.
+        ensures singles { length script.now.clients ≤ 1 → AreSingles script.now (replayed script.now).batches }
     {
         let mut replay = Replay::first(alloc, script)?;
         perform_rounds(alloc, script, &mut replay, most_rounds(script))?;
@@ -44,7 +48,6 @@ fn most_rounds(script: &Script) -> u64
 }
 
 /// Rounds, until one in which no turn acts, but at most so many.
-#[tactic(auto, using(crate::proofs::Resting::round_acts, crate::proofs::Resting::round_ends, crate::proofs::Resting::no_round_left))]
 fn perform_rounds(
     alloc: Global,
     script: &Script,

@@ -34,7 +34,6 @@ impl Told {
     }
 
     /// Tells each client how its task ended.
-    #[tactic(auto, using(crate::proofs::Edges::told_over))]
     pub(crate) fn tell(&mut self, tasks: &[Waiting], ends: &[TaskEnd]) -> Result<(), OutOfMemory>
         ensures { OnOk result (self.new ≡ told_all self.old tasks.now ends.now) }
     {
