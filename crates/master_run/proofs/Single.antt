@@ -3,6 +3,7 @@ use Rattle.std.specs.Prelude.{◌≡◌, ℕ, zero, suc, ◌+◌, ◌-◌, ◌<�
 use Rattle.std.proofs.Common.{sym, ◌∙◌, ap, subst, arith, append-nil}
 use Rattle.std.proofs.Math.Bool.{true≢false}
 use Rattle.std.proofs.lemmas.List.{length-append}
+use Rattle.std.proofs.lemmas.List.Sums.{sum_by-cons}
 use Rattle.std.proofs.lemmas.Option.{slice_get_within}
 use Rattle.std.specs.Cmp.{unsigned_Decides}
 use Rattle.std.specs.List.{AllByRecursion, list_all}
@@ -161,11 +162,15 @@ built_submit script (Read _ _) h = absurd (true≢false (sym h))
 built_submit script (Sleep _) h = absurd (true≢false (sym h))
 built_submit script Close h = absurd (true≢false (sym h))
 
+counts_one : (b : Bool) → b ≡ true → cond {A = ℕ} b 1 0 ≡ 1
+counts_one true e = refl
+counts_one false e = absurd (true≢false (sym e))
+
 all_submit : (script : Script) (steps : List Step) → list_all (is_built_step script) steps ≡ true → count_by is_submit steps ≡ length steps
 all_submit script [] h = refl
 all_submit script (step ∷ steps) h =
-    let one : cond (is_submit step) 1 0 ≡ 1 = ap (λ (b : Bool). cond b 1 0) (built_submit script step (both_first _ _ h)) in
-    let whole : count_by is_submit (step ∷ steps) ≡ cond (is_submit step) 1 0 + count_by is_submit steps = refl in
+    let one = counts_one (is_submit step) (built_submit script step (both_first (is_built_step script step) (list_all (is_built_step script) steps) h)) in
+    let whole = sum_by-cons (λ (x : Step). cond (is_submit x) 1 0) step steps in
     let rest = all_submit script steps (both_second (is_built_step script step) (list_all (is_built_step script) steps) h) in
     omega arith
 

@@ -12,5 +12,6 @@ mod tellings;
 mod waitings;
 
 pub use books::{Book, BookEnd};
+pub use script_form::{LimitName, Rule, ScriptRefusal, read_script};
 pub use serials::SerialCore;
 pub use session_law::{Session, report_text};
