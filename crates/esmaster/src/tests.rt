@@ -62,7 +62,7 @@ fn a_script_has_its_report_or_its_refusal(rt: HostRuntime) -> Result<(), Fail> {
         (
             "[[{\"do\":\"submit\",\"queue\":\"none\",\"task\":{\"index\":\"a\"}}]]",
             Exit::ScriptRefused,
-            "refused bad_shape $ not_built\n",
+            "refused bad_shape clients[0][0].queue reference\n",
         ),
         (
             "[[],[]]",

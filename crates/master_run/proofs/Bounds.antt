@@ -1,5 +1,5 @@
 -- A kept book holds no more entries than its script has steps, so that every counter of its world can rise.
-use Rattle.std.specs.Prelude.{◌≡◌, ℕ, zero, suc, ◌+◌, ◌*◌, ◌<◌, ◌≤◌, ◌^◌, Bool, true, false, ◌&&◌, ◌||◌, ◌==◌, List, [], ◌∷◌, ◌++◌, length, map, Option, Some, None, option_and_then, slice_get, nat_le, refl}
+use Rattle.std.specs.Prelude.{◌≡◌, ℕ, zero, suc, ◌+◌, ◌*◌, ◌<◌, ◌≤◌, Bool, true, false, ◌&&◌, ◌||◌, ◌==◌, List, [], ◌∷◌, length, map, Option, Some, None, option_and_then, slice_get, refl}
 use Rattle.std.proofs.Common.{sym, ◌∙◌, ap, subst, arith}
 use Rattle.std.proofs.Math.Bool.{true≢false}
 use Rattle.std.specs.Cmp.{unsigned_Decides}
@@ -7,18 +7,17 @@ use Rattle.std.specs.List.{AllByRecursion, IsDistinct, list_all, list_any}
 use Rattle.std.proofs.lemmas.Bool.{leb-true}
 use Rattle.std.proofs.lemmas.Map.Steps.{length-le_from_distinct_below}
 use Rattle.std.proofs.lemmas.Option.{slice_get_within}
-use Rattle.std.proofs.lemmas.List.{length-append, length-map}
+use Rattle.std.proofs.lemmas.List.{length-map}
 use Rattle.meta_state.specs.declared.indices.IndexMetadata.{IndexMetadata}
 use Rattle.meta_state.specs.States.{AreRoomy}
 use Rattle.executors.specs.declared.scripts.Script.{Script}
 use Rattle.executors.specs.declared.steps.Step.{Step}
-use Rattle.executors.specs.Scripts.{IsScript, is_client, are_steps}
+use Rattle.executors.specs.Scripts.{IsScript, is_client}
 use Rattle.executors.proofs.Counts.{AreCounted}
 use Rattle.session_law.specs.declared.batches.Batch.{Batch}
-use Rattle.session_law.specs.declared.batches.Entry.{Entry}
 use Rattle.session_law.specs.declared.worlds.NodeWorld.{NodeWorld}
 use Rattle.session_law.specs.declared.worlds.World.{World}
-use Rattle.session_law.specs.Histories.{AreApart, IsApart, IsKept, IsOwn, Placed, is_own_step, is_same_task, placed_in, placed_of, step_at, world_after}
+use Rattle.session_law.specs.Histories.{AreApart, IsApart, IsKept, IsOwn, Placed, is_own_step, placed_of, step_at, world_after}
 use Rattle.session_law.proofs.Counts.{IsCounted, placed_count, world_counted}
 use Rattle.master_run.specs.Rooms.{CanSend, HasRoom}
 use Rattle.master_run.proofs.Keeping.{both_first, both_second, no_some, some_same}

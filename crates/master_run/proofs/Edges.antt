@@ -1,5 +1,5 @@
 -- Lists that are at their end: a position that isn't there is 0, and where no end is left nobody is told.
-use Rattle.std.specs.Prelude.{◌≡◌, ℕ, zero, suc, List, [], ◌∷◌, length, Option, Some, None, Result, Ok, Err, OnOk, slice_get, refl}
+use Rattle.std.specs.Prelude.{◌≡◌, ℕ, zero, suc, List, [], ◌∷◌, length, Some, None, Result, Ok, Err, OnOk, slice_get, refl}
 use Rattle.std.proofs.Common.{sym, arith}
 use Rattle.executors.specs.declared.ends.TaskEnd.{TaskEnd}
 use Rattle.master_run.specs.declared.waitings.Waiting.{Waiting}

@@ -1,5 +1,5 @@
 -- A book stays kept where a batch of its script's own entries joins it, each apart from all before it.
-use Rattle.std.specs.Prelude.{◌≡◌, ℕ, zero, suc, ◌+◌, ◌<◌, ◌≤◌, Bool, true, false, not, ◌&&◌, ◌||◌, List, [], ◌∷◌, ◌++◌, length, map, fold, Option, Some, None, slice_get, bytes_eq, refl, if◌then◌else◌}
+use Rattle.std.specs.Prelude.{◌≡◌, ℕ, zero, suc, ◌+◌, ◌<◌, ◌≤◌, Bool, true, false, not, ◌&&◌, ◌||◌, List, [], ◌∷◌, ◌++◌, length, map, fold, Some, None, slice_get, bytes_eq, refl, if◌then◌else◌}
 use Rattle.std.proofs.Common.{sym, ◌∙◌, ap, subst, arith, append-nil}
 use Rattle.std.proofs.lemmas.Grind.{flat_map-append}
 use Rattle.std.proofs.Math.Bool.{true≢false}
@@ -153,15 +153,17 @@ apart_append [] more apart among cross = among
 apart_append (first ∷ all) more apart among cross = (
   all_append (IsApart first) all more apart.0 (all_by (λ later. AllByRecursion (λ before. IsApart before later) (first ∷ all)) (IsApart first) (λ later h. h.0) more cross),
   apart_append all more apart.1 among
-    (all_by (λ later. AllByRecursion (λ before. IsApart before later) (first ∷ all)) (λ later. AllByRecursion (λ before. IsApart before later) all) (λ later h. h.1) more cross),
+      (all_by (λ later. AllByRecursion (λ before. IsApart before later) (first ∷ all)) (λ later. AllByRecursion (λ before. IsApart before later) all) (λ later h. h.1) more cross),
 )
 
 seen_push : (number : ℕ) (batches : List Batch) (batch : Batch) → AreSeen number batches → AllByRecursion (λ e. e.seen < number + length batches) batch.entries
     → AreSeen number (batches ++ batch ∷ [])
 seen_push number [] batch seen h = (all_by (λ (e : Entry). e.seen < number + 0) (λ (e : Entry). e.seen < number) (λ e less. omega arith) batch.entries h, tt)
-seen_push number (first ∷ batches) batch seen h =
-    (seen.0, seen_push (number + 1) batches batch seen.1
-    (all_by (λ (e : Entry). e.seen < number + length (first ∷ batches)) (λ (e : Entry). e.seen < number + 1 + length batches) (λ e less. omega arith) batch.entries h))
+seen_push number (first ∷ batches) batch seen h = (
+  seen.0,
+  seen_push (number + 1) batches batch seen.1
+      (all_by (λ (e : Entry). e.seen < number + length (first ∷ batches)) (λ (e : Entry). e.seen < number + 1 + length batches) (λ e less. omega arith) batch.entries h),
+)
 
 world_push : (script : Script) (world : World) (batches : List Batch) (batch : Batch) → fold (after script) world (batches ++ batch ∷ []) ≡ after script (fold (after script) world batches) batch
 world_push script world [] batch = refl
@@ -194,7 +196,7 @@ kept_join script book number queue entries at valid kept e some own seen apart =
         own = subst (AllByRecursion (IsOwn script)) (sym (placed_push book.batches batch)) (all_append (IsOwn script) (placed_of book.batches) (placed_in batch) kept.serial.own own);
         apart = subst AreApart (sym (placed_push book.batches batch)) apart;
         seen = seen_push 1 book.batches batch kept.serial.seen
-          (all_by (λ (e : Entry). e.seen ≤ length book.batches) (λ (e : Entry). e.seen < 1 + length book.batches) (λ e less. omega arith) entries seen);
+            (all_by (λ (e : Entry). e.seen ≤ length book.batches) (λ (e : Entry). e.seen < 1 + length book.batches) (λ e less. omega arith) entries seen);
       };
       world = ap (λ (s : Stepped). s.world) again ∙ sym (world_push script (first_world script) book.batches batch);
     }

@@ -1,5 +1,5 @@
 -- The rounds of a replay come to rest: each but the last performs a step or takes an entry, and of both there are few.
-use Rattle.std.specs.Prelude.{◌≡◌, ℕ, zero, suc, ◌+◌, ◌*◌, ◌-◌, ◌<◌, ◌≤◌, ◌⊎◌, Bool, true, false, not, List, [], ◌∷◌, ◌++◌, length, map, filter, flat_map, Option, Some, None, option_and_then, slice_get, slice_set, refl, if◌then◌else◌}
+use Rattle.std.specs.Prelude.{◌≡◌, ℕ, zero, suc, ◌+◌, ◌-◌, ◌<◌, ◌≤◌, ◌⊎◌, Bool, true, false, not, List, [], ◌∷◌, length, map, flat_map, Option, Some, None, option_and_then, slice_get, slice_set, refl, if◌then◌else◌}
 use Rattle.std.proofs.Common.{sym, ◌∙◌, ap, subst, arith, inl, inr}
 use Rattle.std.proofs.Math.Bool.{true≢false}
 use Rattle.std.proofs.lemmas.List.{length-append, length-map}
@@ -9,15 +9,15 @@ use Rattle.executors.specs.declared.scripts.Script.{Script}
 use Rattle.executors.specs.declared.steps.Step.{Step}
 use Rattle.executors.specs.declared.steps.Step.TheVariants.{Submit, Await, Watch, Next, Read, Sleep, Close}
 use Rattle.executors.specs.Built.{IsBuilt}
-use Rattle.executors.specs.Scripts.{IsScript, all_steps}
+use Rattle.executors.specs.Scripts.{IsScript}
 use Rattle.session_law.specs.Histories.{step_at}
 use Rattle.master_run.specs.declared.replaying.Replay.{Replay}
 use Rattle.master_run.specs.declared.waitings.Waiting.{Waiting}
 use Rattle.master_run.specs.Replays.{begun, client_turns, most_rounds, performed, round_of, rounds}
 use Rattle.master_run.specs.Rests.{IsAtRest}
 use Rattle.master_run.specs.Soundness.{IsSound}
-use Rattle.master_run.specs.Turns.{client_turn, first_replay, master_turn, next_at, queue_turn, step_turn, waiting_of}
-use Rattle.master_run.specs.Waitings.{is_in, left_by, next_queue, taken_from}
+use Rattle.master_run.specs.Turns.{client_turn, first_replay, next_at, queue_turn, step_turn, waiting_of}
+use Rattle.master_run.specs.Waitings.{is_in, next_queue}
 use Rattle.master_run.proofs.Bounds.{stood}
 use Rattle.master_run.proofs.Keeping.{kept_first, no_some, some_same}
 use Rattle.master_run.proofs.Serving.{master_sound, served_some}

@@ -1,5 +1,5 @@
 -- The master's turn leaves a replay sound: what it takes from a queue may join the book, and what is left waits on.
-use Rattle.std.specs.Prelude.{◌≡◌, ℕ, ◌+◌, ◌<◌, ◌≤◌, Bool, true, false, not, cond, ◌&&◌, ◌==◌, List, [], ◌∷◌, ◌++◌, length, map, filter, Option, Some, None, nat_lt, slice_get, bytes_eq, IsTrue, refl, if◌then◌else◌}
+use Rattle.std.specs.Prelude.{◌≡◌, ℕ, ◌<◌, ◌≤◌, Bool, true, false, not, cond, ◌&&◌, ◌==◌, List, [], ◌∷◌, ◌++◌, length, map, filter, Option, Some, None, nat_lt, slice_get, bytes_eq, refl, if◌then◌else◌}
 use Rattle.std.proofs.Common.{sym, ◌∙◌, ap, subst, arith}
 use Rattle.std.proofs.Math.Bool.{true≢false}
 use Rattle.std.proofs.lemmas.List.{length-append, length-map}
@@ -13,13 +13,13 @@ use Rattle.executors.specs.declared.steps.Step.TheVariants.{Submit, Await, Watch
 use Rattle.executors.specs.Scripts.{IsScript}
 use Rattle.session_law.specs.declared.batches.Batch.{Batch}
 use Rattle.session_law.specs.declared.batches.Entry.{Entry}
-use Rattle.session_law.specs.Histories.{AreApart, IsApart, IsOwn, Placed, is_named, is_own_step, is_same_task, placed_in, placed_of, step_at}
+use Rattle.session_law.specs.Histories.{AreApart, IsApart, IsOwn, Placed, is_named, is_own_step, placed_in, placed_of, step_at}
 use Rattle.master_run.specs.declared.replaying.Replay.{Replay}
 use Rattle.master_run.specs.declared.waitings.Waiting.{Waiting}
-use Rattle.master_run.specs.Books.{Chronicle, IsKeptBook, added, added_to, noted, ran_at}
-use Rattle.master_run.specs.Soundness.{AreApartAmong, AreApartFrom, IsPassed, IsSound, IsWaiting, is_submit_to, name_if, placed_at}
+use Rattle.master_run.specs.Books.{IsKeptBook, added, added_to, noted, ran_at}
+use Rattle.master_run.specs.Soundness.{AreApartAmong, IsPassed, IsSound, IsWaiting, is_submit_to, name_if, placed_at}
 use Rattle.master_run.specs.Tellings.{told_all}
-use Rattle.master_run.specs.Turns.{book_with, master_turn, queue_turn, served}
+use Rattle.master_run.specs.Turns.{master_turn, queue_turn, served}
 use Rattle.master_run.specs.Waitings.{entries_of, is_in, left_by, next_queue, rank_at, sooner, soonest, taken_from}
 use Rattle.master_run.proofs.Alls.{all_append, all_both, all_by, all_filter, all_pass, kept_between, kept_more, kept_some}
 use Rattle.master_run.proofs.Bounds.{false_from}
@@ -141,9 +141,9 @@ turned : (script : Script) (positions : List ℕ) (batches number : ℕ) (w t : 
 turned script positions batches number w t valid waits elsewhere taken apart = record {
   other = same_turned w.entry.client w.entry.step t.entry.client t.entry.step apart.other;
   rises = λ q same.
-    let named : bytes_eq taken.0.queue.name waits.queue.name ≡ true = (λ i. bytes_eq (name_if (sym taken.0.of_queue i)) (name_if (sym waits.of_queue i))) ∙ q in
-    let one = names_apart script.queues t.queue w.queue taken.0.queue waits.queue valid.queues_distinct taken.0.of_queue waits.of_queue named in
-    absurd (true≢false (sym (ap (λ n. n == number) (sym one) ∙ taken.1) ∙ elsewhere));
+      let named : bytes_eq taken.0.queue.name waits.queue.name ≡ true = (λ i. bytes_eq (name_if (sym taken.0.of_queue i)) (name_if (sym waits.of_queue i))) ∙ q in
+      let one = names_apart script.queues t.queue w.queue taken.0.queue waits.queue valid.queues_distinct taken.0.of_queue waits.of_queue named in
+      absurd (true≢false (sym (ap (λ n. n == number) (sym one) ∙ taken.1) ∙ elsewhere));
 }
 
 abbrev AreCrossed : List QueueSpec → List Waiting → List Waiting → Type 0
@@ -157,8 +157,8 @@ crossed_more script positions batches number w taken left true valid e waits are
     all_both (λ l. IsApart (placed_at script.queues w) (placed_at script.queues l)) (λ l. AllByRecursion (λ t. IsApart (placed_at script.queues t) (placed_at script.queues l)) taken) left from_left crossed
 crossed_more script positions batches number w taken left false valid e waits are_taken from_taken from_left crossed = (
   all_by (λ t. IsTaken script positions batches number t × IsApart (placed_at script.queues w) (placed_at script.queues t)) (λ t. IsApart (placed_at script.queues t) (placed_at script.queues w))
-    (λ t h. turned script positions batches number w t valid waits e h.0 h.1) taken
-    (all_both (IsTaken script positions batches number) (λ t. IsApart (placed_at script.queues w) (placed_at script.queues t)) taken are_taken from_taken),
+      (λ t h. turned script positions batches number w t valid waits e h.0 h.1) taken
+      (all_both (IsTaken script positions batches number) (λ t. IsApart (placed_at script.queues w) (placed_at script.queues t)) taken are_taken from_taken),
   crossed,
 )
 
@@ -176,7 +176,7 @@ taken_apart : (script : Script) (positions : List ℕ) (batches number : ℕ) (q
 taken_apart script positions batches number queue [] e taken among = tt
 taken_apart script positions batches number queue (w ∷ all) e taken among = (
   placed_taken script positions batches number queue (IsApart (record { queue = queue.name; entry = w.entry })) all e taken.1
-    (subst (λ p. AllByRecursion (λ v. IsApart p (placed_at script.queues v)) all) (placed_named script.queues number queue w e taken.0.1) among.0),
+      (subst (λ p. AllByRecursion (λ v. IsApart p (placed_at script.queues v)) all) (placed_named script.queues number queue w e taken.0.1) among.0),
   taken_apart script positions batches number queue all e taken.1 among.1,
 )
 
@@ -234,16 +234,16 @@ queue_sound script replay number queue valid sound e some =
       places = sound.places;
       kept = taken_kept script replay number queue valid sound e some;
       passed = subst (AllByRecursion (IsPassed replay.positions)) (sym pushed)
-        (all_append (IsPassed replay.positions) placed (placed_in batch) sound.passed (placed_taken script replay.positions batches number queue (IsPassed replay.positions) taken e are_taken passed));
+          (all_append (IsPassed replay.positions) placed (placed_in batch) sound.passed (placed_taken script replay.positions batches number queue (IsPassed replay.positions) taken e are_taken passed));
       waiting = all_by (IsWaiting script replay.positions batches) (IsWaiting script replay.positions (length (replay.book.batches ++ batch ∷ [])))
-        (λ w h. waits_longer script replay.positions batches (length (replay.book.batches ++ batch ∷ [])) w (omega arith) h) left
-        (all_filter (IsWaiting script replay.positions batches) elsewhere replay.waiting sound.waiting);
+          (λ w h. waits_longer script replay.positions batches (length (replay.book.batches ++ batch ∷ [])) w (omega arith) h) left
+          (all_filter (IsWaiting script replay.positions batches) elsewhere replay.waiting sound.waiting);
       apart = subst (λ all. AllByRecursion (from all) left) (sym pushed)
-        (all_by (λ l. from placed l × from_taken l) (from (placed ++ placed_in batch))
-        (λ l h. all_append (λ before. IsApart before (placed_at script.queues l)) placed (placed_in batch) h.0
-        (placed_taken script replay.positions batches number queue (λ before. IsApart before (placed_at script.queues l)) taken e are_taken h.1)) left
-        (all_both (from placed) from_taken left (all_filter (from placed) elsewhere replay.waiting sound.apart)
-        (crossed script replay.positions batches number replay.waiting valid sound.waiting sound.among)));
+          (all_by (λ l. from placed l × from_taken l) (from (placed ++ placed_in batch))
+          (λ l h. all_append (λ before. IsApart before (placed_at script.queues l)) placed (placed_in batch) h.0
+          (placed_taken script replay.positions batches number queue (λ before. IsApart before (placed_at script.queues l)) taken e are_taken h.1)) left
+          (all_both (from placed) from_taken left (all_filter (from placed) elsewhere replay.waiting sound.apart)
+          (crossed script replay.positions batches number replay.waiting valid sound.waiting sound.among)));
       among = among_filter script.queues elsewhere replay.waiting sound.among;
     }
 

@@ -1,6 +1,6 @@
 -- Where one client submits, each of its submits is a batch of its own.
-use Rattle.std.specs.Prelude.{◌≡◌, ℕ, zero, suc, ◌+◌, ◌-◌, ◌<◌, ◌≤◌, Bool, true, false, not, cond, ◌&&◌, ◌==◌, List, [], ◌∷◌, ◌++◌, length, flat_map, count_by, Option, Some, None, option_and_then, slice_get, refl, if◌then◌else◌}
-use Rattle.std.proofs.Common.{sym, ◌∙◌, ap, subst, arith, append-nil}
+use Rattle.std.specs.Prelude.{◌≡◌, ℕ, zero, suc, ◌+◌, ◌≤◌, Bool, true, false, not, cond, ◌&&◌, ◌==◌, List, [], ◌∷◌, ◌++◌, length, flat_map, count_by, Option, Some, None, option_and_then, slice_get, refl, if◌then◌else◌}
+use Rattle.std.proofs.Common.{sym, ◌∙◌, ap, subst, arith}
 use Rattle.std.proofs.Math.Bool.{true≢false}
 use Rattle.std.proofs.lemmas.List.{length-append}
 use Rattle.std.proofs.lemmas.List.Sums.{sum_by-cons}
@@ -12,23 +12,21 @@ use Rattle.executors.specs.declared.scripts.Script.{Script}
 use Rattle.executors.specs.declared.steps.Step.{Step}
 use Rattle.executors.specs.declared.steps.Step.TheVariants.{Submit, Await, Watch, Next, Read, Sleep, Close}
 use Rattle.executors.specs.Built.{IsBuilt, is_built_step}
-use Rattle.executors.specs.Scripts.{IsScript, all_steps, is_submit, submits}
+use Rattle.executors.specs.Scripts.{IsScript, all_steps, is_submit}
 use Rattle.session_law.specs.declared.batches.Batch.{Batch}
 use Rattle.session_law.specs.Histories.{step_at}
 use Rattle.master_run.specs.declared.replaying.Replay.{Replay}
 use Rattle.master_run.specs.declared.waitings.Waiting.{Waiting}
 use Rattle.master_run.specs.Books.{Chronicle, added_to, ran_at}
 use Rattle.master_run.specs.Replays.{begun, client_turns, most_rounds, performed, round_of, rounds}
-use Rattle.master_run.specs.Rests.{IsAtRest}
 use Rattle.master_run.specs.Singles.{AreSingles, IsSingle}
 use Rattle.master_run.specs.Soundness.{IsSound}
 use Rattle.master_run.specs.Turns.{client_turn, first_replay, master_turn, next_at, served, step_turn, submitted_to, waiting_of}
 use Rattle.master_run.specs.Waitings.{entries_of, is_in, left_by, taken_from}
 use Rattle.master_run.proofs.Alls.{all_push}
 use Rattle.master_run.proofs.Bounds.{stood}
-use Rattle.master_run.proofs.Keeping.{both_first, both_second, no_some}
+use Rattle.master_run.proofs.Keeping.{both_first, both_second}
 use Rattle.master_run.proofs.Resting.{all_left, begun_sound, comes_to_rest, first_sound, one_less, round_sound, steps_left}
-use Rattle.master_run.proofs.Submitting.{client_sound}
 use Rattle.master_run.proofs.Taken.{queued, some_queue, steps_built}
 
 -- between rounds: nothing waits, and each step that was performed has its batch
@@ -106,7 +104,7 @@ step_alone script replay (Some (Submit number task timeout ack)) valid e sound a
       empty = took.empty;
       clock = took.clock ∙ alone.clock;
       each = subst (AllByRecursion IsSingle) (sym took.batches)
-        (all_push IsSingle replay.book.batches took.batch alone.each (record { one = took.single; at_first = took.at_clock ∙ alone.clock }));
+          (all_push IsSingle replay.book.batches took.batch alone.each (record { one = took.single; at_first = took.at_clock ∙ alone.clock }));
       count = omega arith;
     }
 step_alone script replay (Some (Await _ _)) valid e sound alone = still_alone script replay alone

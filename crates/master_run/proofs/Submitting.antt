@@ -1,7 +1,6 @@
 -- A client's turn leaves a replay sound: its step stands after all that it submitted before.
-use Rattle.std.specs.Prelude.{◌≡◌, ℕ, zero, suc, ◌+◌, ◌<◌, ◌≤◌, Bool, true, false, ◌&&◌, ◌==◌, List, [], ◌∷◌, ◌++◌, length, Option, Some, None, slice_get, slice_set, slice_index_or, IsTrue, refl}
+use Rattle.std.specs.Prelude.{◌≡◌, ℕ, zero, suc, ◌+◌, ◌<◌, ◌≤◌, true, ◌&&◌, ◌==◌, List, [], ◌∷◌, ◌++◌, length, Option, Some, None, slice_get, slice_set, refl}
 use Rattle.std.proofs.Common.{sym, ◌∙◌, ap, subst, arith}
-use Rattle.std.proofs.Math.Bool.{true≢false}
 use Rattle.std.proofs.lemmas.List.{get_or-set_same, length-set}
 use Rattle.std.proofs.lemmas.Option.{slice_get_within}
 use Rattle.std.specs.Cmp.{unsigned_Decides}
@@ -14,8 +13,8 @@ use Rattle.executors.specs.Scripts.{IsScript}
 use Rattle.session_law.specs.Histories.{IsApart, Placed, placed_of, step_at}
 use Rattle.master_run.specs.declared.replaying.Replay.{Replay}
 use Rattle.master_run.specs.declared.waitings.Waiting.{Waiting}
-use Rattle.master_run.specs.Soundness.{AreApartAmong, AreApartFrom, IsPassed, IsSound, IsWaiting, is_submit_to, name_if, placed_at}
-use Rattle.master_run.specs.Turns.{client_turn, entry_of, next_at, step_turn, submitted_to, waiting_of}
+use Rattle.master_run.specs.Soundness.{AreApartAmong, IsPassed, IsSound, IsWaiting, is_submit_to, placed_at}
+use Rattle.master_run.specs.Turns.{client_turn, next_at, step_turn, submitted_to, waiting_of}
 use Rattle.master_run.proofs.Alls.{all_by, all_push}
 use Rattle.master_run.proofs.Bounds.{false_from, steps_few, stood}
 use Rattle.master_run.proofs.Keeping.{both_first, both_second}
@@ -76,14 +75,14 @@ submit_sound script replay client number queue e own within sound =
       kept = sound.kept;
       passed = all_by (IsPassed replay.positions) (IsPassed positions) (still_passed replay.positions client) (placed_of replay.book.batches) sound.passed;
       waiting = all_push (IsWaiting script positions (length replay.book.batches)) replay.waiting w
-        (all_by (IsWaiting script replay.positions (length replay.book.batches)) (IsWaiting script positions (length replay.book.batches))
-        (waits_on script replay.positions client (length replay.book.batches)) replay.waiting sound.waiting)
-        (record { queue = queue; of_queue = e; own = own; passed = omega (arith, mine); seen = omega arith });
+          (all_by (IsWaiting script replay.positions (length replay.book.batches)) (IsWaiting script positions (length replay.book.batches))
+          (waits_on script replay.positions client (length replay.book.batches)) replay.waiting sound.waiting)
+          (record { queue = queue; of_queue = e; own = own; passed = omega (arith, mine); seen = omega arith });
       apart = all_push (λ w. AllByRecursion (λ before. IsApart before (placed_at script.queues w)) (placed_of replay.book.batches)) replay.waiting w sound.apart
-        (all_by (IsPassed replay.positions) (λ before. IsApart before placed) (λ before h. apart_next replay.positions before placed h refl) (placed_of replay.book.batches) sound.passed);
+          (all_by (IsPassed replay.positions) (λ before. IsApart before placed) (λ before h. apart_next replay.positions before placed h refl) (placed_of replay.book.batches) sound.passed);
       among = among_push script.queues replay.waiting w sound.among
-        (all_by (IsWaiting script replay.positions (length replay.book.batches)) (λ v. IsApart (placed_at script.queues v) placed)
-        (λ v h. apart_next replay.positions (placed_at script.queues v) placed h.passed refl) replay.waiting sound.waiting);
+          (all_by (IsWaiting script replay.positions (length replay.book.batches)) (λ v. IsApart (placed_at script.queues v) placed)
+          (λ v h. apart_next replay.positions (placed_at script.queues v) placed h.passed refl) replay.waiting sound.waiting);
     }
 
 -- ---- the turn

@@ -1,6 +1,6 @@
 -- Where one client submits, each of its submits is a batch of its own, at moment 0: the master's turn comes after each
 -- step. So it is until a schedule or a sleep comes between.
-use Rattle.std.specs.Prelude.{◌≡◌, ℕ, List, length}
+use Rattle.std.specs.Prelude.{◌≡◌, List, length}
 use Rattle.std.specs.List.{AllByRecursion}
 use Rattle.executors.specs.declared.scripts.Script.{Script}
 use Rattle.executors.specs.Scripts.{submits}

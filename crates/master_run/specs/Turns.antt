@@ -9,7 +9,7 @@ use Rattle.session_law.specs.Histories.{step_at}
 use Rattle.master_run.specs.declared.replaying.Replay.{Replay}
 use Rattle.master_run.specs.declared.waitings.Waiting.{Waiting}
 use Rattle.master_run.specs.Books.{Chronicle, added, first_book}
-use Rattle.master_run.specs.Tellings.{Tellings, told_all}
+use Rattle.master_run.specs.Tellings.{told_all}
 use Rattle.master_run.specs.Waitings.{entries_of, left_by, next_queue, taken_from}
 
 -- before the first turn: each client is at its first step

@@ -1,9 +1,9 @@
-ghost use Rattle.std.specs.Prelude.{◌≡◌, ◌+◌, ◌<◌, ◌≤◌, ◌↔◌, IfOk, OnOk, Some, length};
+ghost use Rattle.std.specs.Prelude.{◌≡◌, ◌<◌, IfOk, OnOk, length};
 ghost use Rattle.std.specs.Option.{option_copied};
 ghost use Rattle.executors.specs.Built.{IsBuilt};
-ghost use Rattle.executors.specs.Scripts.{IsScript, all_steps};
+ghost use Rattle.executors.specs.Scripts.{IsScript};
 ghost use Rattle.session_law.specs.Histories.{step_at};
-ghost use Rattle.master_run.specs.Replays.{client_turns, begun, round_of, session_of};
+ghost use Rattle.master_run.specs.Replays.{round_of, session_of};
 ghost use Rattle.master_run.specs.Soundness.{IsSound};
 ghost use Rattle.master_run.specs.Turns.{client_turn, first_replay, master_turn, next_at, submitted_to};
 

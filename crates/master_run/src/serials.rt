@@ -1,6 +1,6 @@
 ghost use Rattle.std.specs.Prelude.{◌≡◌, ◌≤◌, IfOk, OnOk, length};
 ghost use Rattle.executors.specs.Built.{IsBuilt};
-ghost use Rattle.executors.specs.Scripts.{IsScript, all_steps};
+ghost use Rattle.executors.specs.Scripts.{IsScript};
 ghost use Rattle.master_run.specs.Replays.{most_rounds, performed, replayed, rounds};
 ghost use Rattle.master_run.specs.Rests.{IsAtRest};
 ghost use Rattle.master_run.specs.Singles.{AreSingles};

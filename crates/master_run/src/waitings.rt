@@ -75,11 +75,7 @@ fn rank_of(priority: Priority) -> u8
 }
 
 /// Parts what waits in a queue from all else.
-pub(crate) fn part(
-    alloc: Global,
-    waiting: &[Waiting],
-    number: u32,
-) -> Result<Parted, OutOfMemory>
+pub(crate) fn part(alloc: Global, waiting: &[Waiting], number: u32) -> Result<Parted, OutOfMemory>
     ensures taken { IfOk result (λ made. made.taken ≡ taken_from number waiting.now) }
     ensures left { IfOk result (λ made. made.left ≡ left_by number waiting.now) }
 {

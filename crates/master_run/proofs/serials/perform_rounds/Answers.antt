@@ -11,7 +11,7 @@ returns-then-not-branch c =
 pub loop-left-preserved : goal.loop-left-preserved
 loop-left-preserved c = record {
   leads = round_acts c.args.script.now c.loop-left.left c.loop-left.replay c.round.new.self (rounds c.args.script.now c.args.most c.args.replay.now)
-    c.in_ok-round.ensures.round (sym c.in_ok-round.ensures.acted ∙ c.if-not-branch.false) c.loop-left-test.true c.loop-left.invariant.leads;
+      c.in_ok-round.ensures.round (sym c.in_ok-round.ensures.acted ∙ c.if-not-branch.false) c.loop-left-test.true c.loop-left.invariant.leads;
   sound = c.in_ok-round.ensures.sound;
 }
 
