@@ -15,6 +15,12 @@ const FIRST_REPORT: &str =
 const CREATED_REPORT: &str =
     "report 1\nbatch 1 queue make at 0 tasks 0.0/0 published 2 id 2 commit 0 diffs 1 fulls 0 accepted 1\ntask 0.0 at 0 ok 2\nstate {\"cluster\":\"demo\",\"id\":2,\"master\":\"n0\",\"metadata\":{\"created\":1,\"indices\":{\"logs-1\":{\"aliases\":[],\"aliases_version\":1,\"id\":1,\"open\":true,\"replicas\":1,\"settings_version\":1,\"shards\":1,\"version\":1}},\"settings\":{},\"version\":2},\"nodes\":{\"n0\":{\"eligible\":true}},\"term\":1,\"version\":2}\n";
 
+const TWO_REPORT: &str =
+    "report 1\nbatch 1 queue make at 0 tasks 0.0/0 published 2 id 2 commit 0 diffs 1 fulls 0 accepted 1\nbatch 2 queue make at 0 tasks 0.1/0 published 3 id 3 commit 0 diffs 1 fulls 0 accepted 1\ntask 0.0 at 0 ok 2\ntask 0.1 at 0 ok 3\nstate {\"cluster\":\"demo\",\"id\":3,\"master\":\"n0\",\"metadata\":{\"created\":2,\"indices\":{\"a\":{\"aliases\":[],\"aliases_version\":1,\"id\":1,\"open\":true,\"replicas\":1,\"settings_version\":1,\"shards\":1,\"version\":1},\"b\":{\"aliases\":[],\"aliases_version\":1,\"id\":2,\"open\":true,\"replicas\":1,\"settings_version\":1,\"shards\":1,\"version\":1}},\"settings\":{},\"version\":3},\"nodes\":{\"n0\":{\"eligible\":true}},\"term\":1,\"version\":3}\n";
+
+const REPEATED_REPORT: &str =
+    "report 1\nbatch 1 queue make at 0 tasks 0.0/0 published 2 id 2 commit 0 diffs 1 fulls 0 accepted 1\nbatch 2 queue make at 0 tasks 0.1/0 unchanged 2\ntask 0.0 at 0 ok 2\ntask 0.1 at 0 refused exists\nstate {\"cluster\":\"demo\",\"id\":2,\"master\":\"n0\",\"metadata\":{\"created\":1,\"indices\":{\"a\":{\"aliases\":[],\"aliases_version\":1,\"id\":1,\"open\":true,\"replicas\":1,\"settings_version\":1,\"shards\":1,\"version\":1}},\"settings\":{},\"version\":2},\"nodes\":{\"n0\":{\"eligible\":true}},\"term\":1,\"version\":2}\n";
+
 /// The base script with these clients.
 fn script(alloc: Global, clients: &str) -> Result<Vec<u8>, OutOfMemory> {
     let queues = QUEUES;
@@ -27,7 +33,7 @@ fn script(alloc: Global, clients: &str) -> Result<Vec<u8>, OutOfMemory> {
 /// How the replay of these bytes ends, and what it writes into ample room.
 fn replayed(alloc: Global, bytes: Vec<u8>) -> Result<(Exit, Vec<u8>), OutOfMemory> {
     let mut source = MemSource::new(bytes, Vec::new(alloc));
-    let mut sink = MemSink::with_room(alloc, 4096, Vec::new(alloc))?;
+    let mut sink = MemSink::with_room(alloc, 1_000_000, Vec::new(alloc))?;
     let exit = replay(alloc, &mut source, &mut sink);
     Ok((exit, Vec::from_slice(alloc, sink.written())?))
 }
@@ -44,9 +50,19 @@ fn a_script_has_its_report_or_its_refusal(rt: HostRuntime) -> Result<(), Fail> {
             CREATED_REPORT,
         ),
         (
+            "[[{\"do\":\"submit\",\"queue\":\"make\",\"task\":{\"index\":\"a\"}},{\"do\":\"submit\",\"queue\":\"make\",\"task\":{\"index\":\"b\"}}]]",
+            Exit::Done,
+            TWO_REPORT,
+        ),
+        (
+            "[[{\"do\":\"submit\",\"queue\":\"make\",\"task\":{\"index\":\"a\"}},{\"do\":\"submit\",\"queue\":\"make\",\"task\":{\"index\":\"a\"}}]]",
+            Exit::Done,
+            REPEATED_REPORT,
+        ),
+        (
             "[[{\"do\":\"submit\",\"queue\":\"none\",\"task\":{\"index\":\"a\"}}]]",
             Exit::ScriptRefused,
-            "refused bad_shape $ not_built\n",
+            "refused bad_shape clients[0][0].queue reference\n",
         ),
         (
             "[[],[]]",
@@ -59,6 +75,31 @@ fn a_script_has_its_report_or_its_refusal(rt: HostRuntime) -> Result<(), Fail> {
         let (ended, written) = replayed(alloc, script(alloc, clients)?)?;
         assert_eq!(rt; ended, exit, "of {clients}");
         assert_eq!(rt; written.as_slice(), text.as_bytes(), "of {clients}");
+    }
+    Ok(())
+}
+
+#[test]
+fn each_of_many_steps_is_a_batch_of_its_own(rt: HostRuntime) -> Result<(), Fail> {
+    let alloc = rt.alloc();
+    let mut clients = String::from_str(alloc, "[[")?;
+    for step in 0..200 {
+        let comma = if step == 0 { "" } else { "," };
+        write!(
+            clients,
+            "{comma}{{\"do\":\"submit\",\"queue\":\"make\",\"task\":{{\"index\":\"i{step}\"}}}}"
+        )?;
+    }
+    clients.push_str("]]")?;
+    let (ended, written) = replayed(alloc, script(alloc, clients.as_str())?)?;
+    assert_eq!(rt; ended, Exit::Done);
+    let report = String::from_utf8(written)?;
+    assert_eq!(rt; report.lines().count(), 402);
+    for line in [
+        "batch 200 queue make at 0 tasks 0.199/0 published 201 id 201 commit 0 diffs 1 fulls 0 accepted 1",
+        "task 0.199 at 0 ok 201",
+    ] {
+        assert!(rt; report.lines().any(|found| found == line), "{line}");
     }
     Ok(())
 }

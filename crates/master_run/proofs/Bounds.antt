@@ -1,5 +1,5 @@
 -- A kept book holds no more entries than its script has steps, so that every counter of its world can rise.
-use Rattle.std.specs.Prelude.{◌≡◌, ℕ, zero, suc, ◌+◌, ◌*◌, ◌<◌, ◌≤◌, ◌^◌, Bool, true, false, ◌&&◌, ◌||◌, ◌==◌, List, [], ◌∷◌, ◌++◌, length, map, Option, Some, None, option_and_then, slice_get, nat_le, refl}
+use Rattle.std.specs.Prelude.{◌≡◌, ℕ, zero, suc, ◌+◌, ◌*◌, ◌<◌, ◌≤◌, Bool, true, false, ◌&&◌, ◌||◌, ◌==◌, List, [], ◌∷◌, length, map, Option, Some, None, option_and_then, slice_get, refl}
 use Rattle.std.proofs.Common.{sym, ◌∙◌, ap, subst, arith}
 use Rattle.std.proofs.Math.Bool.{true≢false}
 use Rattle.std.specs.Cmp.{unsigned_Decides}
@@ -7,18 +7,17 @@ use Rattle.std.specs.List.{AllByRecursion, IsDistinct, list_all, list_any}
 use Rattle.std.proofs.lemmas.Bool.{leb-true}
 use Rattle.std.proofs.lemmas.Map.Steps.{length-le_from_distinct_below}
 use Rattle.std.proofs.lemmas.Option.{slice_get_within}
-use Rattle.std.proofs.lemmas.List.{length-append, length-map}
+use Rattle.std.proofs.lemmas.List.{length-map}
 use Rattle.meta_state.specs.declared.indices.IndexMetadata.{IndexMetadata}
 use Rattle.meta_state.specs.States.{AreRoomy}
 use Rattle.executors.specs.declared.scripts.Script.{Script}
 use Rattle.executors.specs.declared.steps.Step.{Step}
-use Rattle.executors.specs.Scripts.{IsScript, is_client, are_steps}
+use Rattle.executors.specs.Scripts.{IsScript, is_client}
 use Rattle.executors.proofs.Counts.{AreCounted}
 use Rattle.session_law.specs.declared.batches.Batch.{Batch}
-use Rattle.session_law.specs.declared.batches.Entry.{Entry}
 use Rattle.session_law.specs.declared.worlds.NodeWorld.{NodeWorld}
 use Rattle.session_law.specs.declared.worlds.World.{World}
-use Rattle.session_law.specs.Histories.{AreApart, IsApart, IsKept, IsOwn, Placed, is_own_step, is_same_task, placed_in, placed_of, step_at, world_after}
+use Rattle.session_law.specs.Histories.{AreApart, IsApart, IsKept, IsOwn, Placed, is_own_step, placed_of, step_at, world_after}
 use Rattle.session_law.proofs.Counts.{IsCounted, placed_count, world_counted}
 use Rattle.master_run.specs.Rooms.{CanSend, HasRoom}
 use Rattle.master_run.proofs.Keeping.{both_first, both_second, no_some, some_same}
@@ -56,6 +55,24 @@ stands_client script name client number (Some steps) e h = stands_step script na
 pub stands : (script : Script) (placed : Placed) → IsOwn script placed → Stands script placed.queue placed.entry.client placed.entry.step
 stands script placed own = stands_client script placed.queue placed.entry.client placed.entry.step (slice_get script.clients placed.entry.client) refl own
 
+-- ---- where a step of a script stands
+
+pub record Stood (script : Script) (client number : ℕ) (step : Step) : Type 0 where
+  pub steps : List Step
+  pub of_client : slice_get script.clients client ≡ Some steps
+  pub of_steps : slice_get steps number ≡ Some step
+
+stood_in : (script : Script) (client number : ℕ) (step : Step) (found : Option (List Step)) → slice_get script.clients client ≡ found
+    → option_and_then (λ steps. slice_get steps number) found ≡ Some step → Stood script client number step
+stood_in script client number step None e h = absurd (no_some step h)
+stood_in script client number step (Some steps) e h = record { steps = steps; of_client = e; of_steps = h }
+
+pub stood : (script : Script) (client number : ℕ) (step : Step) → step_at script client number ≡ Some step → Stood script client number step
+stood script client number step e = stood_in script client number step (slice_get script.clients client) refl e
+
+pub steps_few : (script : Script) (client : ℕ) (steps : List Step) → IsScript script → slice_get script.clients client ≡ Some steps → length steps ≤ 4096
+steps_few script client steps valid e = leb-true (length steps) 4096 (both_first _ _ (all_get (is_client script) script.clients client steps valid.clients e))
+
 -- ---- entries as numbers below 32 times 4,096
 
 record IsWithin (placed : Placed) : Type 0 where
@@ -65,7 +82,7 @@ record IsWithin (placed : Placed) : Type 0 where
 within : (script : Script) (placed : Placed) → IsScript script → IsOwn script placed → IsWithin placed
 within script placed valid own =
     let at = stands script placed own in
-    let few = leb-true (length at.steps) 4096 (both_first _ _ (all_get (is_client script) script.clients placed.entry.client at.steps valid.clients at.of_client)) in
+    let few = steps_few script placed.entry.client at.steps valid at.of_client in
     let clients = valid.clients_limit in
     let c = slice_get_within script.clients placed.entry.client at.steps at.of_client in
     let s = slice_get_within at.steps placed.entry.step at.step at.of_steps in

@@ -1,5 +1,5 @@
--- A book stays kept where an entry of its script's own joins it that is apart from all before it.
-use Rattle.std.specs.Prelude.{◌≡◌, ℕ, zero, suc, ◌+◌, ◌<◌, ◌≤◌, Bool, true, false, not, ◌&&◌, ◌||◌, List, [], ◌∷◌, ◌++◌, length, map, fold, Option, Some, None, slice_get, bytes_eq, refl, if◌then◌else◌}
+-- A book stays kept where a batch of its script's own entries joins it, each apart from all before it.
+use Rattle.std.specs.Prelude.{◌≡◌, ℕ, zero, suc, ◌+◌, ◌<◌, ◌≤◌, Bool, true, false, not, ◌&&◌, ◌||◌, List, [], ◌∷◌, ◌++◌, length, map, fold, Some, None, slice_get, bytes_eq, refl, if◌then◌else◌}
 use Rattle.std.proofs.Common.{sym, ◌∙◌, ap, subst, arith, append-nil}
 use Rattle.std.proofs.lemmas.Grind.{flat_map-append}
 use Rattle.std.proofs.Math.Bool.{true≢false}
@@ -31,6 +31,7 @@ use Rattle.session_law.specs.Publications.{cut_by, does_commit, reach_all, reach
 use Rattle.session_law.specs.Steps.{batch_step, commit_step, drop_step, executed_step, next_step}
 use Rattle.session_law.specs.Worlds.{first_world}
 use Rattle.master_run.specs.Books.{Chronicle, IsKeptBook, first_book, noted, ran_at}
+use Rattle.master_run.proofs.Alls.{all_append, all_by, all_push}
 
 -- ---- tests and options
 
@@ -92,6 +93,20 @@ named_kind (q ∷ queues) (suc n) queue d e =
     (λ h. true≢false (sym (any_at queues n queue q.name e (bytes_turn queue.name q.name h)) ∙ apart))
     (named_kind queues n queue (both_second _ _ d) e)
 
+pub names_apart : (queues : List QueueSpec) (i j : ℕ) (a b : QueueSpec) → are_distinct (map (λ q. q.name) queues) ≡ true → slice_get queues i ≡ Some a → slice_get queues j ≡ Some b
+    → bytes_eq a.name b.name ≡ true → i ≡ j
+names_apart [] i j a b d e f h = absurd (no_some a e)
+names_apart (q ∷ queues) zero zero a b d e f h = refl
+names_apart (q ∷ queues) zero (suc j) a b d e f h =
+    let apart : list_any (bytes_eq q.name) (map (λ q. q.name) queues) ≡ false = not_true _ (both_first _ _ d) in
+    let same : bytes_eq q.name b.name ≡ true = ap (λ (s : QueueSpec). bytes_eq s.name b.name) (some_same q a e) ∙ h in
+    absurd (true≢false (sym (any_at queues j b q.name f same) ∙ apart))
+names_apart (q ∷ queues) (suc i) zero a b d e f h =
+    let apart : list_any (bytes_eq q.name) (map (λ q. q.name) queues) ≡ false = not_true _ (both_first _ _ d) in
+    let same : bytes_eq q.name a.name ≡ true = ap (λ (s : QueueSpec). bytes_eq s.name a.name) (some_same q b f) ∙ bytes_turn a.name b.name h in
+    absurd (true≢false (sym (any_at queues i a q.name e same) ∙ apart))
+names_apart (q ∷ queues) (suc i) (suc j) a b d e f h = ap suc (names_apart queues i j a b (both_second _ _ d) e f h)
+
 -- ---- a batch is the same again at the reading at which it committed
 
 publish_again : (commits : Bool) (world : World) (kind : Kind) (count at : ℕ) (new : ClusterState) (marks : List Mark) (reach : Reach)
@@ -127,23 +142,28 @@ step_again cut nodes world kind tasks at =
 
 -- ---- one more at the back
 
-pub all_push : {X : Type 0} (P : X → Type 0) (xs : List X) (y : X) → AllByRecursion P xs → P y → AllByRecursion P (xs ++ y ∷ [])
-all_push P [] y all h = (h, tt)
-all_push P (x ∷ xs) y all h = (all.0, all_push P xs y all.1 h)
-
 results_push : (script : Script) (world : World) (batches : List Batch) (batch : Batch) → AreResults script world batches
     → batch.result ≡ (stepped script (fold (after script) world batches) batch).result → AreResults script world (batches ++ batch ∷ [])
 results_push script world [] batch all e = (e, tt)
 results_push script world (first ∷ batches) batch all e = (all.0, results_push script (after script world first) batches batch all.1 e)
 
-apart_push : (all : List Placed) (placed : Placed) → AreApart all → AllByRecursion (λ before. IsApart before placed) all → AreApart (all ++ placed ∷ [])
-apart_push [] placed apart h = (tt, tt)
-apart_push (first ∷ more) placed apart h = (all_push (IsApart first) more placed apart.0 h.0, apart_push more placed apart.1 h.1)
+pub apart_append : (all more : List Placed) → AreApart all → AreApart more → AllByRecursion (λ later. AllByRecursion (λ before. IsApart before later) all) more
+    → AreApart (all ++ more)
+apart_append [] more apart among cross = among
+apart_append (first ∷ all) more apart among cross = (
+  all_append (IsApart first) all more apart.0 (all_by (λ later. AllByRecursion (λ before. IsApart before later) (first ∷ all)) (IsApart first) (λ later h. h.0) more cross),
+  apart_append all more apart.1 among
+      (all_by (λ later. AllByRecursion (λ before. IsApart before later) (first ∷ all)) (λ later. AllByRecursion (λ before. IsApart before later) all) (λ later h. h.1) more cross),
+)
 
-seen_push : (number : ℕ) (batches : List Batch) (batch : Batch) → AreSeen number batches → ((n : ℕ) → number ≤ n → AllByRecursion (λ e. e.seen < n) batch.entries)
+seen_push : (number : ℕ) (batches : List Batch) (batch : Batch) → AreSeen number batches → AllByRecursion (λ e. e.seen < number + length batches) batch.entries
     → AreSeen number (batches ++ batch ∷ [])
-seen_push number [] batch seen h = (h number (omega arith), tt)
-seen_push number (first ∷ batches) batch seen h = (seen.0, seen_push (number + 1) batches batch seen.1 (λ n less. h n (omega arith)))
+seen_push number [] batch seen h = (all_by (λ (e : Entry). e.seen < number + 0) (λ (e : Entry). e.seen < number) (λ e less. omega arith) batch.entries h, tt)
+seen_push number (first ∷ batches) batch seen h = (
+  seen.0,
+  seen_push (number + 1) batches batch seen.1
+      (all_by (λ (e : Entry). e.seen < number + length (first ∷ batches)) (λ (e : Entry). e.seen < number + 1 + length batches) (λ e less. omega arith) batch.entries h),
+)
 
 world_push : (script : Script) (world : World) (batches : List Batch) (batch : Batch) → fold (after script) world (batches ++ batch ∷ []) ≡ after script (fold (after script) world batches) batch
 world_push script world [] batch = refl
@@ -157,26 +177,26 @@ placed_push batches batch = flat_map-append placed_in batches (batch ∷ []) ∙
 pub kept_first : (script : Script) → IsKeptBook script (first_book script)
 kept_first script = record { serial = record { results = tt; filled = tt; own = tt; apart = tt; seen = tt }; world = refl }
 
-pub kept_more : (script : Script) (book : Chronicle) (number : ℕ) (queue : QueueSpec) (entry : Entry) (at : ℕ)
+pub kept_join : (script : Script) (book : Chronicle) (number : ℕ) (queue : QueueSpec) (entries : List Entry) (at : ℕ)
     → IsScript script → IsKeptBook script book → slice_get script.queues number ≡ Some queue
-    → let placed : Placed = record { queue = queue.name; entry = entry } in
-    IsOwn script placed → entry.seen ≡ 0 → AllByRecursion (λ before. IsApart before placed) (placed_of book.batches)
-    → IsKeptBook script (noted book queue (entry ∷ []) at (ran_at script book.world queue (entry ∷ []) at))
-kept_more script book number queue entry at valid kept e own seen apart =
-    let step : World → Kind → ℕ → Stepped = λ w k c. batch_step (cut_by script.faults) script.nodes w k (tasks_at script (entry ∷ [])) c in
+    → let placed : List Placed = map (λ e. record { queue = queue.name; entry = e }) entries in
+    0 < length entries → AllByRecursion (IsOwn script) placed → AllByRecursion (λ e. e.seen ≤ length book.batches) entries → AreApart (placed_of book.batches ++ placed)
+    → IsKeptBook script (noted book queue entries at (ran_at script book.world queue entries at))
+kept_join script book number queue entries at valid kept e some own seen apart =
+    let step : World → Kind → ℕ → Stepped = λ w k c. batch_step (cut_by script.faults) script.nodes w k (tasks_at script entries) c in
     let made = step book.world queue.executor at in
-    let batch : Batch = record { queue = queue.name; at = at; entries = entry ∷ []; result = made.result } in
+    let batch : Batch = record { queue = queue.name; at = at; entries = entries; result = made.result } in
     let again : made ≡ stepped script (world_after script book.batches) batch =
-    sym (step_again (cut_by script.faults) script.nodes book.world queue.executor (tasks_at script (entry ∷ [])) at)
+    sym (step_again (cut_by script.faults) script.nodes book.world queue.executor (tasks_at script entries) at)
     ∙ (λ i. step (kept.world i) (sym (named_kind script.queues number queue valid.queues_distinct e) i) (commit_of made.result)) in
-    let placed : Placed = record { queue = queue.name; entry = entry } in
     record {
       serial = record {
         results = results_push script (first_world script) book.batches batch kept.serial.results (ap (λ (s : Stepped). s.result) again);
-        filled = all_push (λ (b : Batch). 0 < length b.entries) book.batches batch kept.serial.filled (omega arith);
-        own = subst (AllByRecursion (IsOwn script)) (sym (placed_push book.batches batch)) (all_push (IsOwn script) (placed_of book.batches) placed kept.serial.own own);
-        apart = subst AreApart (sym (placed_push book.batches batch)) (apart_push (placed_of book.batches) placed kept.serial.apart apart);
-        seen = seen_push 1 book.batches batch kept.serial.seen (λ n less. (omega (arith, seen), tt));
+        filled = all_push (λ (b : Batch). 0 < length b.entries) book.batches batch kept.serial.filled some;
+        own = subst (AllByRecursion (IsOwn script)) (sym (placed_push book.batches batch)) (all_append (IsOwn script) (placed_of book.batches) (placed_in batch) kept.serial.own own);
+        apart = subst AreApart (sym (placed_push book.batches batch)) apart;
+        seen = seen_push 1 book.batches batch kept.serial.seen
+            (all_by (λ (e : Entry). e.seen ≤ length book.batches) (λ (e : Entry). e.seen < 1 + length book.batches) (λ e less. omega arith) entries seen);
       };
       world = ap (λ (s : Stepped). s.world) again ∙ sym (world_push script (first_world script) book.batches batch);
     }

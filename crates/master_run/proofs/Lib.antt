@@ -1,5 +1,10 @@
+pub mod Alls
 pub mod Bounds
+pub mod Edges
 pub mod Keeping
-pub mod Orders
+pub mod Resting
+pub mod Serving
+pub mod Single
+pub mod Submitting
 pub mod Taken
 pub mod Voters

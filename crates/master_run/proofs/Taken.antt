@@ -1,26 +1,28 @@
 -- The tasks of a kept book's batch are few, and its queue's executor takes each of them.
-use Rattle.std.specs.Prelude.{◌≡◌, ℕ, ◌+◌, ◌<◌, ◌^◌, Bool, true, ◌&&◌, List, [], ◌∷◌, ◌++◌, length, map, Option, Some, None, option_and_then, slice_get, bytes_eq, filter_map, refl}
+use Rattle.std.specs.Prelude.{◌≡◌, ℕ, zero, suc, ◌+◌, ◌<◌, ◌^◌, Bool, true, ◌&&◌, List, [], ◌∷◌, ◌++◌, length, map, Option, Some, None, option_and_then, slice_get, bytes_eq, refl}
 use Rattle.std.proofs.Common.{sym, ◌∙◌, ap, subst, arith}
 use Rattle.std.proofs.Math.Bool.{true≢false}
 use Rattle.std.specs.List.{AllByRecursion, cons_option, list_all}
 use Rattle.std.specs.Cmp.Lexicographic.{bytes_decides}
 use Rattle.std.proofs.lemmas.List.{length-append, length-map}
 use Rattle.executors.specs.declared.kinds.Kind.{Kind}
+use Rattle.executors.specs.declared.kinds.Kind.TheVariants as kind
 use Rattle.executors.specs.declared.queues.QueueSpec.{QueueSpec}
 use Rattle.executors.specs.declared.scripts.Script.{Script}
 use Rattle.executors.specs.declared.steps.Step.{Step}
 use Rattle.executors.specs.declared.steps.Step.TheVariants.{Submit, Await, Watch, Next, Read, Sleep, Close}
 use Rattle.executors.specs.declared.tasks.Task.{Task}
-use Rattle.script_form.specs.Built.{IsBuilt, is_built_step, is_taken}
+use Rattle.executors.specs.declared.tasks.Task.TheVariants as task
+use Rattle.script_form.specs.Built.{IsBuilt, is_built_kind, is_built_queue, is_built_step}
 use Rattle.executors.specs.Kinds.{accepts}
-use Rattle.executors.specs.Scripts.{IsScript}
+use Rattle.executors.specs.Scripts.{IsScript, are_steps, is_client, is_queue_for, is_step, is_task_for}
 use Rattle.session_law.specs.declared.batches.Batch.{Batch}
 use Rattle.session_law.specs.declared.batches.Entry.{Entry}
 use Rattle.session_law.specs.Histories.{IsOwn, Placed, is_named, is_own_step, kind_named, placed_in, placed_of, step_at, submitted, task_at, tasks_at}
 use Rattle.session_law.proofs.Counts.{filter_map_shorter}
 use Rattle.master_run.specs.Books.{Chronicle, IsKeptBook, noted, ran_at}
-use Rattle.master_run.proofs.Bounds.{Stands, all_get, entries_few, stands}
-use Rattle.master_run.proofs.Keeping.{both_first, both_second, named_kind, placed_push, some_same}
+use Rattle.master_run.proofs.Bounds.{Stands, all_get, entries_few, stands, stood}
+use Rattle.master_run.proofs.Keeping.{both_first, both_second, named_kind, no_some, placed_push, some_same}
 
 -- ---- few
 
@@ -37,6 +39,64 @@ few_tasks script book queue entries at valid kept =
 
 -- ---- taken
 
+-- what a script's form says of a step's queue
+abbrev pub is_queued : Script → Step → Bool
+is_queued script (Submit at task timeout ack) = is_queue_for script task (slice_get script.queues at)
+is_queued script _ = true
+
+step_queued : (script : Script) (before : List Step) (step : Step) → is_step script before step ≡ true → is_queued script step ≡ true
+step_queued script before (Submit at task timeout ack) h = both_first _ _ h
+step_queued script before (Await _ _) h = refl
+step_queued script before (Watch _ _ _ _) h = refl
+step_queued script before (Next _ _ _ _) h = refl
+step_queued script before (Read _ _) h = refl
+step_queued script before (Sleep _) h = refl
+step_queued script before Close h = refl
+
+steps_queued : (script : Script) (before steps : List Step) (number : ℕ) (step : Step) → are_steps script before steps ≡ true → slice_get steps number ≡ Some step → is_queued script step ≡ true
+steps_queued script before [] number step h e = absurd (no_some step e)
+steps_queued script before (first ∷ steps) zero step h e = ap (is_queued script) (sym (some_same first step e)) ∙ step_queued script before first (both_first _ _ h)
+steps_queued script before (first ∷ steps) (suc n) step h e = steps_queued script (before ++ first ∷ []) steps n step (both_second _ _ h) e
+
+pub queued : (script : Script) (client number : ℕ) (step : Step) → IsScript script → step_at script client number ≡ Some step → is_queued script step ≡ true
+queued script client number step valid e =
+    let at = stood script client number step e in
+    let steps = all_get (is_client script) script.clients client at.steps valid.clients at.of_client in
+    steps_queued script [] at.steps number step (both_second _ _ steps) at.of_steps
+
+pub some_queue : (script : Script) (task : Task) (found : Option QueueSpec) → is_queue_for script task found ≡ true → (queue : QueueSpec) × (found ≡ Some queue)
+some_queue script task None h = absurd (true≢false (sym h))
+some_queue script task (Some queue) h = (queue, refl)
+
+-- what is built says of each step
+pub steps_built : (script : Script) → IsBuilt script → list_all (list_all (is_built_step script)) script.clients ≡ true
+steps_built script built = both_first _ _ (both_second _ _ (both_second _ _ built))
+
+pub built_at : (script : Script) (client number : ℕ) (step : Step) → IsBuilt script → step_at script client number ≡ Some step → is_built_step script step ≡ true
+built_at script client number step built e =
+    let at = stood script client number step e in
+    all_get (is_built_step script) at.steps number step (all_get (list_all (is_built_step script)) script.clients client at.steps (steps_built script built) at.of_client) at.of_steps
+
+-- a built executor takes every task that a script's form lets stand in its queue
+accepts_built : (script : Script) (kind : Kind) (task : Task) → is_built_kind kind ≡ true → is_task_for script kind task ≡ true → accepts kind task ≡ true
+accepts_built script kind.CreateIndex (task.CreateIndex index shards replicas) built h = refl
+accepts_built script kind.CreateIndex (task.DeleteIndex index) built h = absurd (true≢false (sym h))
+accepts_built script kind.CreateIndex (task.IndexSetting index key value) built h = absurd (true≢false (sym h))
+accepts_built script kind.CreateIndex (task.OpenClose index opened) built h = absurd (true≢false (sym h))
+accepts_built script kind.CreateIndex (task.Alias index alias add) built h = absurd (true≢false (sym h))
+accepts_built script kind.CreateIndex (task.ClusterSetting key value) built h = absurd (true≢false (sym h))
+accepts_built script kind.CreateIndex (task.Join node) built h = absurd (true≢false (sym h))
+accepts_built script kind.CreateIndex (task.Leave name) built h = absurd (true≢false (sym h))
+accepts_built script kind.CreateIndex task.Reelect built h = absurd (true≢false (sym h))
+accepts_built script kind.DeleteIndex task built h = absurd (true≢false (sym built))
+accepts_built script kind.IndexSettings task built h = absurd (true≢false (sym built))
+accepts_built script kind.OpenClose task built h = absurd (true≢false (sym built))
+accepts_built script kind.Aliases task built h = absurd (true≢false (sym built))
+accepts_built script kind.AliasesAtomic task built h = absurd (true≢false (sym built))
+accepts_built script kind.ClusterSettings task built h = absurd (true≢false (sym built))
+accepts_built script kind.Nodes task built h = absurd (true≢false (sym built))
+accepts_built script kind.Reelect task built h = absurd (true≢false (sym built))
+
 -- a queue that is named as another is of the same executor
 named_same : (script : Script) (number : ℕ) (queue : QueueSpec) (other : QueueSpec) (at : ℕ) → IsScript script → slice_get script.queues number ≡ Some queue
     → slice_get script.queues at ≡ Some other → bytes_eq other.name queue.name ≡ true → other.executor ≡ queue.executor
@@ -46,22 +106,23 @@ named_same script number queue other at valid e f same =
     ∙ named_kind script.queues number queue valid.queues_distinct e
 
 taken_by : (script : Script) (number : ℕ) (queue : QueueSpec) (task : Task) (at : ℕ) → IsScript script → slice_get script.queues number ≡ Some queue
-    → (found : Option QueueSpec) → slice_get script.queues at ≡ found → is_named queue.name found ≡ true → is_taken task found ≡ true → accepts queue.executor task ≡ true
-taken_by script number queue task at valid e None f named taken = absurd (true≢false (sym named))
-taken_by script number queue task at valid e (Some other) f named taken =
-    ap (λ k. accepts k task) (sym (named_same script number queue other at valid e f named)) ∙ taken
+    → (found : Option QueueSpec) → slice_get script.queues at ≡ found → is_named queue.name found ≡ true → is_built_queue found ≡ true → is_queue_for script task found ≡ true
+    → accepts queue.executor task ≡ true
+taken_by script number queue task at valid e None f named built for = absurd (true≢false (sym named))
+taken_by script number queue task at valid e (Some other) f named built for =
+    ap (λ k. accepts k task) (sym (named_same script number queue other at valid e f named)) ∙ accepts_built script other.executor task built for
 
 step_taken : (script : Script) (number : ℕ) (queue : QueueSpec) → IsScript script → slice_get script.queues number ≡ Some queue
-    → (step : Step) → is_own_step script queue.name (Some step) ≡ true → is_built_step script step ≡ true
+    → (step : Step) → is_own_step script queue.name (Some step) ≡ true → is_built_step script step ≡ true → is_queued script step ≡ true
     → (rest : List Task) → list_all (accepts queue.executor) rest ≡ true → list_all (accepts queue.executor) (cons_option (submitted step) rest) ≡ true
-step_taken script number queue valid e (Submit at task timeout ack) own built rest all =
-    λ i. taken_by script number queue task at valid e (slice_get script.queues at) refl own (both_first _ _ built) i && all i
-step_taken script number queue valid e (Await _ _) own built rest all = all
-step_taken script number queue valid e (Watch _ _ _ _) own built rest all = all
-step_taken script number queue valid e (Next _ _ _ _) own built rest all = all
-step_taken script number queue valid e (Read _ _) own built rest all = all
-step_taken script number queue valid e (Sleep _) own built rest all = all
-step_taken script number queue valid e Close own built rest all = all
+step_taken script number queue valid e (Submit at task timeout ack) own built for rest all =
+    λ i. taken_by script number queue task at valid e (slice_get script.queues at) refl own (both_first _ _ built) for i && all i
+step_taken script number queue valid e (Await _ _) own built for rest all = all
+step_taken script number queue valid e (Watch _ _ _ _) own built for rest all = all
+step_taken script number queue valid e (Next _ _ _ _) own built for rest all = all
+step_taken script number queue valid e (Read _ _) own built for rest all = all
+step_taken script number queue valid e (Sleep _) own built for rest all = all
+step_taken script number queue valid e Close own built for rest all = all
 
 entry_taken : (script : Script) (number : ℕ) (queue : QueueSpec) (entry : Entry) → IsScript script → IsBuilt script → slice_get script.queues number ≡ Some queue
     → Stands script queue.name entry.client entry.step
@@ -69,10 +130,8 @@ entry_taken : (script : Script) (number : ℕ) (queue : QueueSpec) (entry : Entr
 entry_taken script number queue entry valid built e at rest all =
     let here : step_at script entry.client entry.step ≡ Some at.step =
     ap (option_and_then (λ steps. slice_get steps entry.step)) at.of_client ∙ at.of_steps in
-    let steps_built = all_get (list_all (is_built_step script)) script.clients entry.client at.steps built.steps at.of_client in
-    let step_built = all_get (is_built_step script) at.steps entry.step at.step steps_built at.of_steps in
     subst (λ (o : Option Step). list_all (accepts queue.executor) (cons_option (option_and_then submitted o) rest) ≡ true) (sym here)
-    (step_taken script number queue valid e at.step at.own step_built rest all)
+    (step_taken script number queue valid e at.step at.own (built_at script entry.client entry.step at.step built here) (queued script entry.client entry.step at.step valid here) rest all)
 
 entries_taken : (script : Script) (number : ℕ) (queue : QueueSpec) (entries : List Entry) → IsScript script → IsBuilt script → slice_get script.queues number ≡ Some queue
     → AllByRecursion (IsOwn script) (map (λ e. record { queue = queue.name; entry = e }) entries) → list_all (accepts queue.executor) (tasks_at script entries) ≡ true

@@ -1,5 +1,10 @@
 pub mod Books
-pub mod Order
 pub mod Outcomes
 pub mod Replays
+pub mod Rests
 pub mod Rooms
+pub mod Singles
+pub mod Soundness
+pub mod Tellings
+pub mod Turns
+pub mod Waitings

@@ -1,5 +1,4 @@
 -- What the code says of a batch, as what came of it: the world stays where none is said.
-use Rattle.std.specs.Prelude.{Option}
 use Rattle.std.specs.Option.{unwrap_or}
 use Rattle.session_law.specs.declared.worlds.Stepped.{Stepped}
 use Rattle.session_law.specs.declared.worlds.World.{World}

@@ -1,47 +1,44 @@
--- The serial rule so far, and the session that it makes of a script: each submit of the one client is a batch of its
--- own, at moment 0, since the master's turn comes after it. The rule is this project's own.
-use Rattle.std.specs.Prelude.{ℕ, ◌+◌, List, [], ◌∷◌, ◌++◌, map}
-use Rattle.executors.specs.declared.ends.TaskEnd.{TaskEnd}
+-- The serial rule so far, and the session that it makes of a script: rounds of turns, until one in which no turn acts.
+-- The rule is this project's own.
+use Rattle.std.specs.Prelude.{ℕ, zero, suc, ◌+◌, ◌*◌, false, List, [], ◌∷◌, length, if◌then◌else◌}
+use Rattle.std.specs.Map.{values_of}
 use Rattle.executors.specs.declared.scripts.Script.{Script}
 use Rattle.executors.specs.declared.steps.Step.{Step}
-use Rattle.executors.specs.declared.steps.Step.TheVariants.{Submit}
-use Rattle.session_law.specs.declared.batches.Entry.{Entry}
-use Rattle.session_law.specs.declared.replies.Reply.{Reply}
+use Rattle.executors.specs.Scripts.{all_steps}
 use Rattle.session_law.specs.declared.sessions.Session.{Session}
-use Rattle.master_run.specs.declared.serials.Replay.{Replay}
-use Rattle.master_run.specs.Books.{Chronicle, added, first_book}
+use Rattle.master_run.specs.declared.replaying.Replay.{Replay}
+use Rattle.master_run.specs.Turns.{client_turn, first_replay, master_turn}
 
-abbrev pub replay_first : Script → Replay
-replay_first script = record { book = first_book script; replies = [] }
+-- no turn of the round has acted yet
+abbrev pub begun : Replay → Replay
+begun replay = record replay { acted = false }
 
-abbrev pub entry_of : ℕ → ℕ → Entry
-entry_of client step = record { client = client; step = step; seen = 0 }
+-- a turn for each client, from one on
+abbrev pub client_turns : Script → ℕ → List (List Step) → Replay → Replay
+client_turns script client [] replay = replay
+client_turns script client (steps ∷ more) replay = client_turns script (client + 1) more (client_turn script client replay)
 
--- what the client is told of the task that its step submitted
-abbrev pub reply_of : ℕ → ℕ → TaskEnd → Reply
-reply_of client step end = record { client = client; step = step; at = 0; end = end }
+-- one round: a turn for each client in order, and one for the master
+abbrev pub round_of : Script → Replay → Replay
+round_of script replay = master_turn script (client_turns script 0 script.clients (begun replay))
 
-abbrev pub told : Replay → ℕ → ℕ → Chronicle → Replay
-told replay client step book = record { book = book; replies = replay.replies ++ map (reply_of client step) book.ends }
+-- at most so many rounds; they end with the one in which no turn acts
+unfoldable pub rounds : Script → ℕ → Replay → Replay
+rounds script zero replay = replay
+rounds script (suc more) replay = if (round_of script replay).acted then rounds script more (round_of script replay) else round_of script replay
 
--- one step more: a submit runs at once
-abbrev pub perform : Script → ℕ → ℕ → Replay → Step → Replay
-perform script client step replay (Submit queue task timeout ack) =
-    told replay client step (added script replay.book queue (entry_of client step ∷ []) 0)
-perform script client step replay _ = replay
+-- every round but the last performs a step or takes an entry, so these are always enough
+abbrev pub most_rounds : Script → ℕ
+most_rounds script = 2 * length (all_steps script) + 1
 
-abbrev pub perform_steps : Script → ℕ → ℕ → Replay → List Step → Replay
-perform_steps script client step replay [] = replay
-perform_steps script client step replay (s ∷ ss) = perform_steps script client (step + 1) (perform script client step replay s) ss
-
-abbrev pub perform_clients : Script → ℕ → Replay → List (List Step) → Replay
-perform_clients script client replay [] = replay
-perform_clients script client replay (steps ∷ more) = perform_clients script (client + 1) (perform_steps script client 0 replay steps) more
+-- where a script has been performed
+abbrev pub performed : Script → Replay
+performed script = rounds script (most_rounds script) (first_replay script)
 
 abbrev pub session_of : Replay → Session
 session_of replay = record {
   batches = replay.book.batches;
-  replies = replay.replies;
+  replies = values_of replay.told;
   acks = [];
   watches = [];
   reads = [];
@@ -51,4 +48,4 @@ session_of replay = record {
 
 -- the one session that the serial rule makes of a script
 unfoldable pub replayed : Script → Session
-replayed script = session_of (perform_clients script 0 (replay_first script) script.clients)
+replayed script = session_of (performed script)

@@ -1,5 +1,5 @@
 -- Counters that can still rise: what the code of a batch asks of the world that it runs on.
-use Rattle.std.specs.Prelude.{ℕ, ◌+◌, ◌<◌, ◌≤◌, ◌^◌}
+use Rattle.std.specs.Prelude.{◌+◌, ◌<◌, ◌≤◌, ◌^◌}
 use Rattle.std.specs.List.{AllByRecursion}
 use Rattle.meta_state.specs.States.{IsRoomy}
 use Rattle.session_law.specs.declared.worlds.NodeWorld.{NodeWorld}

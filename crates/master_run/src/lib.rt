@@ -6,7 +6,10 @@ mod batching;
 mod books;
 mod opening;
 mod publishing;
+mod replaying;
 mod serials;
+mod tellings;
+mod waitings;
 
 pub use books::{Book, BookEnd};
 pub use script_form::{LimitName, Rule, ScriptRefusal, read_script};

@@ -1,0 +1,198 @@
+-- Where one client submits, each of its submits is a batch of its own.
+use Rattle.std.specs.Prelude.{◌≡◌, ℕ, zero, suc, ◌+◌, ◌≤◌, Bool, true, false, not, cond, ◌&&◌, ◌==◌, List, [], ◌∷◌, ◌++◌, length, flat_map, count_by, Option, Some, None, option_and_then, slice_get, refl, if◌then◌else◌}
+use Rattle.std.proofs.Common.{sym, ◌∙◌, ap, subst, arith}
+use Rattle.std.proofs.Math.Bool.{true≢false}
+use Rattle.std.proofs.lemmas.List.{length-append}
+use Rattle.std.proofs.lemmas.List.Sums.{sum_by-cons}
+use Rattle.std.proofs.lemmas.Option.{slice_get_within}
+use Rattle.std.specs.Cmp.{unsigned_Decides}
+use Rattle.std.specs.List.{AllByRecursion, list_all}
+use Rattle.executors.specs.declared.queues.QueueSpec.{QueueSpec}
+use Rattle.executors.specs.declared.scripts.Script.{Script}
+use Rattle.executors.specs.declared.steps.Step.{Step}
+use Rattle.executors.specs.declared.steps.Step.TheVariants.{Submit, Await, Watch, Next, Read, Sleep, Close}
+use Rattle.script_form.specs.Built.{IsBuilt, is_built_step}
+use Rattle.executors.specs.Scripts.{IsScript, all_steps, is_submit}
+use Rattle.session_law.specs.declared.batches.Batch.{Batch}
+use Rattle.session_law.specs.Histories.{step_at}
+use Rattle.master_run.specs.declared.replaying.Replay.{Replay}
+use Rattle.master_run.specs.declared.waitings.Waiting.{Waiting}
+use Rattle.master_run.specs.Books.{Chronicle, added_to, ran_at}
+use Rattle.master_run.specs.Replays.{begun, client_turns, most_rounds, performed, round_of, rounds}
+use Rattle.master_run.specs.Singles.{AreSingles, IsSingle}
+use Rattle.master_run.specs.Soundness.{IsSound}
+use Rattle.master_run.specs.Turns.{client_turn, first_replay, master_turn, next_at, served, step_turn, submitted_to, waiting_of}
+use Rattle.master_run.specs.Waitings.{entries_of, is_in, left_by, taken_from}
+use Rattle.master_run.proofs.Alls.{all_push}
+use Rattle.master_run.proofs.Bounds.{stood}
+use Rattle.master_run.proofs.Keeping.{both_first, both_second}
+use Rattle.master_run.proofs.Resting.{all_left, begun_sound, comes_to_rest, first_sound, one_less, round_sound, steps_left}
+use Rattle.master_run.proofs.Taken.{queued, some_queue, steps_built}
+
+-- between rounds: nothing waits, and each step that was performed has its batch
+record IsAlone (script : Script) (replay : Replay) : Type 0 where
+  empty : replay.waiting ≡ []
+  clock : replay.clock ≡ 0
+  each : AllByRecursion IsSingle replay.book.batches
+  count : length replay.book.batches + steps_left script.clients replay.positions ≡ length (all_steps script)
+
+-- ---- one round
+
+-- the master takes the one entry that waits
+served_from : Script → Replay → Waiting → Option QueueSpec → Chronicle
+served_from script replay w found = added_to script replay.book found (w.entry ∷ []) replay.clock
+
+one_waits : (script : Script) (replay : Replay) (client number : ℕ) → replay.waiting ≡ [] → (submitted_to replay client number).waiting ≡ waiting_of replay client number ∷ []
+one_waits script replay client number e = ap (λ (all : List Waiting). all ++ waiting_of replay client number ∷ []) e
+
+same_number : (n : ℕ) → (n == n) ≡ true
+same_number n = (unsigned_Decides n n).1 refl
+
+taken_one : (number : ℕ) (w : Waiting) → is_in number w ≡ true → taken_from number (w ∷ []) ≡ w ∷ []
+taken_one number w h = ap (λ (b : Bool). cond b (w ∷ []) []) h
+
+left_one : (number : ℕ) (w : Waiting) → is_in number w ≡ true → left_by number (w ∷ []) ≡ []
+left_one number w h = ap (λ (b : Bool). cond (not b) (w ∷ []) []) h
+
+record TookOne (before now : Replay) : Type 0 where
+  empty : now.waiting ≡ []
+  batch : Batch
+  single : length batch.entries ≡ 1
+  at_clock : batch.at ≡ before.clock
+  batches : now.book.batches ≡ before.book.batches ++ batch ∷ []
+  clock : now.clock ≡ before.clock
+  positions : now.positions ≡ before.positions
+
+served_one : (script : Script) (replay : Replay) (w : Waiting) (queue : QueueSpec) → slice_get script.queues w.queue ≡ Some queue
+    → TookOne replay (served script (record replay { waiting = w ∷ [] }) w.queue)
+served_one script replay w queue e =
+    let entries = entries_of (taken_from w.queue (w ∷ [])) in
+    record {
+      empty = left_one w.queue w (same_number w.queue);
+      batch = record { queue = queue.name; at = replay.clock; entries = entries; result = (ran_at script replay.book.world queue entries replay.clock).result };
+      single = ap (λ (all : List Waiting). length (entries_of all)) (taken_one w.queue w (same_number w.queue));
+      at_clock = refl;
+      batches = ap (λ (found : Option QueueSpec). (added_to script replay.book found entries replay.clock).batches) e;
+      clock = refl;
+      positions = refl;
+    }
+
+took_one : (script : Script) (replay : Replay) (w : Waiting) (queue : QueueSpec) → slice_get script.queues w.queue ≡ Some queue → replay.waiting ≡ w ∷ []
+    → TookOne replay (master_turn script replay)
+took_one script replay w queue e one = subst (λ (all : List Waiting). TookOne replay (master_turn script (record replay { waiting = all }))) (sym one) (served_one script replay w queue e)
+
+took_none : (script : Script) (replay : Replay) → replay.waiting ≡ [] → master_turn script replay ≡ replay
+took_none script replay none = subst (λ (all : List Waiting). master_turn script (record replay { waiting = all }) ≡ record replay { waiting = all }) (sym none) refl
+
+still_alone : (script : Script) (replay : Replay) → IsAlone script replay → IsAlone script (master_turn script replay)
+still_alone script replay alone = subst (IsAlone script) (sym (took_none script replay alone.empty)) alone
+
+step_alone : (script : Script) (replay : Replay) (found : Option Step) → IsScript script → step_at script 0 (next_at replay.positions 0) ≡ found → IsSound script replay
+    → IsAlone script replay → IsAlone script (master_turn script (step_turn replay 0 found))
+step_alone script replay None valid e sound alone = still_alone script replay alone
+step_alone script replay (Some (Submit number task timeout ack)) valid e sound alone =
+    let w = waiting_of replay 0 number in
+    let at = stood script 0 (next_at replay.positions 0) (Submit number task timeout ack) e in
+    let within = slice_get_within at.steps (next_at replay.positions 0) (Submit number task timeout ack) at.of_steps in
+    let less = one_less script.clients replay.positions 0 at.steps sound.places at.of_client within in
+    let queue = some_queue script task (slice_get script.queues number) (queued script 0 (next_at replay.positions 0) (Submit number task timeout ack) valid e) in
+    let took = took_one script (submitted_to replay 0 number) w queue.0 queue.1 (one_waits script replay 0 number alone.empty) in
+    let more = ap (λ (l : List Batch). length l) took.batches ∙ length-append replay.book.batches (took.batch ∷ []) in
+    let stands = ap (steps_left script.clients) took.positions in
+    let count = alone.count in
+    record {
+      empty = took.empty;
+      clock = took.clock ∙ alone.clock;
+      each = subst (AllByRecursion IsSingle) (sym took.batches)
+          (all_push IsSingle replay.book.batches took.batch alone.each (record { one = took.single; at_first = took.at_clock ∙ alone.clock }));
+      count = omega arith;
+    }
+step_alone script replay (Some (Await _ _)) valid e sound alone = still_alone script replay alone
+step_alone script replay (Some (Watch _ _ _ _)) valid e sound alone = still_alone script replay alone
+step_alone script replay (Some (Next _ _ _ _)) valid e sound alone = still_alone script replay alone
+step_alone script replay (Some (Read _ _)) valid e sound alone = still_alone script replay alone
+step_alone script replay (Some (Sleep _)) valid e sound alone = still_alone script replay alone
+step_alone script replay (Some Close) valid e sound alone = still_alone script replay alone
+
+-- at most one client has a turn
+one_turn : (script : Script) (all : List (List Step)) (replay : Replay) → script.clients ≡ all → length all ≤ 1 → client_turns script 0 all replay ≡ client_turn script 0 replay
+one_turn script [] replay e few =
+    ap (step_turn replay 0) (sym (ap (λ (clients : List (List Step)). option_and_then (λ steps. slice_get steps (next_at replay.positions 0)) (slice_get clients 0)) e))
+one_turn script (steps ∷ []) replay e few = refl
+one_turn script (steps ∷ second ∷ more) replay e few = absurd (omega arith)
+
+round_alone : (script : Script) (replay : Replay) → IsScript script → length script.clients ≤ 1 → IsSound script replay → IsAlone script replay → IsAlone script (round_of script replay)
+round_alone script replay valid few sound alone =
+    subst (λ (turned : Replay). IsAlone script (master_turn script turned)) (sym (one_turn script script.clients (begun replay) refl few))
+    (step_alone script (begun replay) (step_at script 0 (next_at replay.positions 0)) valid refl (begun_sound script replay sound)
+    (record { empty = alone.empty; clock = alone.clock; each = alone.each; count = alone.count }))
+
+-- ---- all rounds
+
+either_round : (script : Script) (b : Bool) (more last : Replay) → IsAlone script more → IsAlone script last → IsAlone script (if b then more else last)
+either_round script true more last h k = h
+either_round script false more last h k = k
+
+rounds_alone : (script : Script) (n : ℕ) (replay : Replay) → IsScript script → length script.clients ≤ 1 → IsSound script replay → IsAlone script replay → IsAlone script (rounds script n replay)
+unfolding rounds
+rounds_alone script zero replay valid few sound alone = alone
+rounds_alone script (suc n) replay valid few sound alone =
+    let next = round_alone script replay valid few sound alone in
+    either_round script (round_of script replay).acted (rounds script n (round_of script replay)) (round_of script replay)
+    (rounds_alone script n (round_of script replay) valid few (round_sound script replay valid sound) next) next
+
+-- ---- every step is a submit, and was performed
+
+all_of_both : {X : Type 0} (p : X → Bool) (xs ys : List X) → list_all p xs ≡ true → list_all p ys ≡ true → list_all p (xs ++ ys) ≡ true
+all_of_both p [] ys h k = k
+all_of_both p (x ∷ xs) ys h k = λ i. both_first (p x) (list_all p xs) h i && all_of_both p xs ys (both_second (p x) (list_all p xs) h) k i
+
+all_flat : {X : Type 0} (p : X → Bool) (lists : List (List X)) → list_all (list_all p) lists ≡ true → list_all p (flat_map (λ xs. xs) lists) ≡ true
+all_flat p [] h = refl
+all_flat p (xs ∷ lists) h = all_of_both p xs (flat_map (λ xs. xs) lists) (both_first _ _ h) (all_flat p lists (both_second _ _ h))
+
+built_submit : (script : Script) (step : Step) → is_built_step script step ≡ true → is_submit step ≡ true
+built_submit script (Submit queue task timeout ack) h = refl
+built_submit script (Await _ _) h = absurd (true≢false (sym h))
+built_submit script (Watch _ _ _ _) h = absurd (true≢false (sym h))
+built_submit script (Next _ _ _ _) h = absurd (true≢false (sym h))
+built_submit script (Read _ _) h = absurd (true≢false (sym h))
+built_submit script (Sleep _) h = absurd (true≢false (sym h))
+built_submit script Close h = absurd (true≢false (sym h))
+
+counts_one : (b : Bool) → b ≡ true → cond {A = ℕ} b 1 0 ≡ 1
+counts_one true e = refl
+counts_one false e = absurd (true≢false (sym e))
+
+all_submit : (script : Script) (steps : List Step) → list_all (is_built_step script) steps ≡ true → count_by is_submit steps ≡ length steps
+all_submit script [] h = refl
+all_submit script (step ∷ steps) h =
+    let one = counts_one (is_submit step) (built_submit script step (both_first (is_built_step script step) (list_all (is_built_step script) steps) h)) in
+    let whole = sum_by-cons (λ (x : Step). cond (is_submit x) 1 0) step steps in
+    let rest = all_submit script steps (both_second (is_built_step script step) (list_all (is_built_step script) steps) h) in
+    omega arith
+
+none_past : {X : Type 0} (xs : List X) (n : ℕ) → slice_get xs n ≡ None → length xs ≤ n
+none_past [] n e = omega arith
+none_past (x ∷ xs) zero e = cc
+none_past (x ∷ xs) (suc n) e = let rest = none_past xs n e in omega arith
+
+none_left : (script : Script) (all : List (List Step)) (positions : List ℕ) → script.clients ≡ all → length all ≤ 1 → step_at script 0 (next_at positions 0) ≡ None → steps_left all positions ≡ 0
+unfolding steps_left
+none_left script [] positions e few ended = refl
+none_left script (steps ∷ more) [] e few ended = refl
+none_left script (steps ∷ []) (p ∷ positions) e few ended =
+    let past = none_past steps p (sym (ap (λ (clients : List (List Step)). option_and_then (λ steps. slice_get steps p) (slice_get clients 0)) e) ∙ ended) in omega arith
+none_left script (steps ∷ second ∷ more) (p ∷ positions) e few ended = absurd (omega arith)
+
+first_alone : (script : Script) → IsAlone script (first_replay script)
+first_alone script = record { empty = refl; clock = refl; each = tt; count = let left = all_left script.clients in omega arith }
+
+pub are_singles : (script : Script) → IsScript script → IsBuilt script → length script.clients ≤ 1 → AreSingles script (performed script).book.batches
+are_singles script valid built few =
+    let alone = rounds_alone script (most_rounds script) (first_replay script) valid few (first_sound script) (first_alone script) in
+    let rest = comes_to_rest script valid built in
+    let none = none_left script script.clients (performed script).positions refl few (rest.ended 0) in
+    let all = all_submit script (all_steps script) (all_flat (is_built_step script) script.clients (steps_built script built)) in
+    let count = alone.count in
+    record { each = alone.each; count = omega arith }

@@ -1,0 +1,54 @@
+-- The waiting list: the tasks that were submitted and not taken yet, in the order of submission; and which of them the
+-- master takes next. That a more urgent queue comes first, and that all that waits in a queue is taken together, are
+-- Elasticsearch's rules (`MasterService`); that of equally urgent queues the one with the earliest entry comes first is
+-- this project's own.
+use Rattle.std.specs.Prelude.{ℕ, Bool, not, ◌==◌, List, [], ◌∷◌, map, filter, Option, Some, None, nat_lt, slice_get, if◌then◌else◌}
+use Rattle.executors.specs.declared.queues.Priority.{Priority}
+use Rattle.executors.specs.declared.queues.Priority.TheVariants.{Immediate, Urgent, High, Normal, Low, Languid}
+use Rattle.executors.specs.declared.queues.QueueSpec.{QueueSpec}
+use Rattle.session_law.specs.declared.batches.Entry.{Entry}
+use Rattle.master_run.specs.declared.waitings.Waiting.{Waiting}
+
+-- how urgent a priority is; 0 is served first
+abbrev pub rank_of : Priority → ℕ
+rank_of Immediate = 0
+rank_of Urgent = 1
+rank_of High = 2
+rank_of Normal = 3
+rank_of Low = 4
+rank_of Languid = 5
+
+abbrev pub rank_if : Option QueueSpec → ℕ
+rank_if None = 6
+rank_if (Some queue) = rank_of queue.priority
+
+-- how urgent the queue of a number is
+abbrev pub rank_at : List QueueSpec → ℕ → ℕ
+rank_at queues number = rank_if (slice_get queues number)
+
+-- the one of two entries that is served first: the more urgent and, of equally urgent ones, the earlier
+abbrev pub sooner : List QueueSpec → Waiting → Waiting → Waiting
+sooner queues first next = if nat_lt (rank_at queues next.queue) (rank_at queues first.queue) then next else first
+
+-- the one of an entry and those after it that is served first
+abbrev pub soonest : List QueueSpec → Waiting → List Waiting → Waiting
+soonest queues first [] = first
+soonest queues first (next ∷ more) = soonest queues (sooner queues first next) more
+
+-- the queue that is served next, by its number
+abbrev pub next_queue : List QueueSpec → List Waiting → Option ℕ
+next_queue queues [] = None
+next_queue queues (first ∷ more) = Some (soonest queues first more).queue
+
+abbrev pub is_in : ℕ → Waiting → Bool
+is_in number waiting = waiting.queue == number
+
+-- all that waits in a queue, and all that waits elsewhere
+abbrev pub taken_from : ℕ → List Waiting → List Waiting
+taken_from number all = filter (is_in number) all
+
+abbrev pub left_by : ℕ → List Waiting → List Waiting
+left_by number all = filter (λ w. not (is_in number w)) all
+
+abbrev pub entries_of : List Waiting → List Entry
+entries_of all = map (λ w. w.entry) all
