@@ -1,7 +1,11 @@
+pub mod AliasTasks
 pub mod Built
 pub mod Contexts
 pub mod Executions
+pub mod IndexTasks
 pub mod Kinds
+pub mod NodeTasks
 pub mod Outcomes
 pub mod Scripts
+pub mod SettingTasks
 pub mod Words
