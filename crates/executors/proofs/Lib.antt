@@ -1,4 +1,6 @@
+pub mod Atomic
 pub mod Counts
 pub mod Fold
 pub mod Numbering
-pub mod Taking
+pub mod Rising
+pub mod Versions

@@ -1,5 +1,5 @@
 -- What an executor makes of a batch: a fold over its tasks, each on the state that those before it left.
-use Rattle.std.specs.Prelude.{◌≡◌, ℕ, ◌-◌, ◌^◌, ◌<◌, List, [], ◌∷◌, ◌++◌, map}
+use Rattle.std.specs.Prelude.{◌≡◌, ℕ, ◌-◌, ◌^◌, ◌<◌, List, [], ◌∷◌, ◌++◌, map, if◌then◌else◌}
 use Rattle.std.specs.List.{AllByRecursion}
 use Rattle.meta_state.specs.declared.indices.IndexMetadata.{IndexMetadata}
 use Rattle.meta_state.specs.declared.states.ClusterState.{ClusterState}
@@ -10,10 +10,10 @@ use Rattle.executors.specs.declared.contexts.Mark.{Mark}
 use Rattle.executors.specs.declared.contexts.Verdict.{Verdict}
 use Rattle.executors.specs.declared.contexts.Verdict.TheVariants.{Success, Refused}
 use Rattle.executors.specs.declared.kinds.Kind.{Kind}
-use Rattle.executors.specs.declared.kinds.Kind.TheVariants as kind
-use Rattle.executors.specs.declared.outcomes.Ran.{Ran}
+use Rattle.executors.specs.declared.batches.Ran.{Ran}
 use Rattle.executors.specs.declared.tasks.Task.{Task}
 use Rattle.executors.specs.Contexts.{marked}
+use Rattle.executors.specs.Kinds.{is_atomic}
 use Rattle.executors.specs.Outcomes.{task_outcome}
 
 abbrev pub tasks_of : List TaskContext → List Task
@@ -43,15 +43,18 @@ abbrev pub failed_by : Verdict → ℕ → Executed → Executed
 failed_by Success position rest = rest
 failed_by (Refused refusal) position rest = Failed position refusal
 
--- a batch that fails as a whole where a task is refused: for the first refused one, and no mark stays
+-- the first refused task of a batch fails it
 abbrev pub failed_or : List Mark → Executed → Executed
 failed_or [] made = made
 failed_or (mark ∷ marks) made = failed_by mark.verdict mark.position (failed_or marks made)
 
--- what follows the last task: only the atomic executor of aliases fails a batch
+-- a batch that fails as a whole where a task is refused, whatever was marked before
+abbrev pub unless_refused : Ran → Executed
+unless_refused ran = failed_or ran.marks (made_of ran)
+
+-- what follows the last task
 abbrev pub settled : Kind → Ran → Executed
-settled kind.AliasesAtomic ran = failed_or ran.marks (made_of ran)
-settled _ ran = made_of ran
+settled kind ran = if is_atomic kind then unless_refused ran else made_of ran
 
 -- what a kind of executor makes of a batch on a state
 unfoldable pub executed : Kind → ClusterState → List TaskContext → Executed
@@ -79,3 +82,19 @@ pub record CanRise (state : ClusterState) : Type 0 where
   pub term : state.term < 2 ^ 64 - 1
   pub created : state.metadata.created < 2 ^ 64 - 1
   pub indices : AllByRecursion (λ p. CanIndexRise p.1) state.metadata.indices
+
+-- ---- a batch that stops at its first refused task
+
+-- after one task more
+abbrev pub attempted_by : Verdict → ℕ → Ran → Executed
+attempted_by Success position ran = made_of ran
+attempted_by (Refused refusal) position ran = Failed position refusal
+
+abbrev pub attempted : Executed → TaskContext → Executed
+attempted (Made state marks) context =
+    attempted_by (task_outcome state context.task).1 context.position (ran_more (record { state = state; marks = marks }) context)
+attempted (Failed position refusal) context = Failed position refusal
+
+abbrev pub CanGoOn : Executed → Type 0
+CanGoOn (Made state marks) = CanRise state
+CanGoOn (Failed position refusal) = Unit {0}

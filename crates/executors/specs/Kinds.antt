@@ -21,3 +21,8 @@ accepts _ _ = false
 abbrev pub needs_master : Kind → Bool
 needs_master kind.Reelect = false
 needs_master _ = true
+
+-- whether it fails a whole batch for one refused task
+abbrev pub is_atomic : Kind → Bool
+is_atomic kind.AliasesAtomic = true
+is_atomic _ = false
