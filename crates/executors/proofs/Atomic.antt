@@ -76,11 +76,11 @@ pub record IsAttempt (initial : ClusterState) (all : List TaskContext) (count : 
   pub counted : IsCountedResult height made
   pub room : height + rest ≤ 2 ^ 63 - 1 + count
 
-pub attempt_first : (initial : ClusterState) (all : List TaskContext) (count : ℕ) (r : Result Executed OutOfMemory)
-    → IsRoomy initial → IfOk r (λ made. made ≡ made_of (ran_none initial)) → IfOk r (IsAttempt initial all count all count)
-attempt_first initial all count (Ok made) roomy e = subst (IsAttempt initial all count all count) (sym e)
-    (record { leads = refl; unrefused = tt; height = 2 ^ 63 - 1; counted = roomy_counted initial roomy; room = omega arith })
-attempt_first initial all count (Err _) roomy e = tt
+pub attempt_first : (initial : ClusterState) (all items : List TaskContext) (count n : ℕ) (r : Result Executed OutOfMemory)
+    → IsRoomy initial → items ≡ all → n ≡ count → IfOk r (λ made. made ≡ made_of (ran_none initial)) → IfOk r (IsAttempt initial all count items n)
+attempt_first initial all items count n (Ok made) roomy same long e = subst (IsAttempt initial all count items n) (sym e)
+    (record { leads = ap (λ l. unless_refused (folded (ran_none initial) l)) same; unrefused = tt; height = 2 ^ 63 - 1; counted = roomy_counted initial roomy; room = omega arith })
+attempt_first initial all items count n (Err _) roomy same long e = tt
 
 goes_on : (height : ℕ) (made : Executed) → height + 2 < 2 ^ 64 → IsCountedResult height made → CanGoOn made
 goes_on height (Made state marks) low c = low_rises height state low c

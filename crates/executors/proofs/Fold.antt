@@ -51,11 +51,11 @@ pub record IsUnderWay (initial : ClusterState) (all : List TaskContext) (count :
   pub counted : IsCountedState height ran.state
   pub room : height + rest ≤ 2 ^ 63 - 1 + count
 
-pub under_way_first : (initial : ClusterState) (all : List TaskContext) (count : ℕ) (r : Result Ran OutOfMemory)
-    → IsRoomy initial → IfOk r (λ ran. ran ≡ ran_none initial) → IfOk r (IsUnderWay initial all count all count)
-under_way_first initial all count (Ok ran) roomy e = subst (IsUnderWay initial all count all count) (sym e)
-    (record { leads = refl; height = 2 ^ 63 - 1; counted = roomy_counted initial roomy; room = omega arith })
-under_way_first initial all count (Err _) roomy e = tt
+pub under_way_first : (initial : ClusterState) (all items : List TaskContext) (count n : ℕ) (r : Result Ran OutOfMemory)
+    → IsRoomy initial → items ≡ all → n ≡ count → IfOk r (λ ran. ran ≡ ran_none initial) → IfOk r (IsUnderWay initial all count items n)
+under_way_first initial all items count n (Ok ran) roomy same long e = subst (IsUnderWay initial all count items n) (sym e)
+    (record { leads = ap (folded (ran_none initial)) same; height = 2 ^ 63 - 1; counted = roomy_counted initial roomy; room = omega arith })
+under_way_first initial all items count n (Err _) roomy same long e = tt
 
 pub under_way_rises : (initial : ClusterState) (all items : List TaskContext) (count n rest : ℕ) (r : Result Ran OutOfMemory)
     → count < 2 ^ 63 → rest + 1 ≡ n → IfOk r (IsUnderWay initial all count items n) → IfOk r (λ before. CanRise before.state)

@@ -3,4 +3,5 @@ pub mod Counts
 pub mod Fold
 pub mod Numbering
 pub mod Rising
+pub mod Takes
 pub mod Versions

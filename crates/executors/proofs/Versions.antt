@@ -1,8 +1,9 @@
 -- No executor raises an identifier or a version of the state.
-use Rattle.std.specs.Prelude.{◌≡◌, ℕ, ◌==◌, Bool, true, false, List, [], ◌∷◌, Option, Some, None, refl, if◌then◌else◌}
-use Rattle.std.proofs.Common.{◌∙◌}
+use Rattle.std.specs.Prelude.{◌≡◌, ℕ, ◌==◌, Bool, true, false, List, [], ◌∷◌, Option, Some, None, Result, Ok, Err, IfOk, refl, if◌then◌else◌}
+use Rattle.std.proofs.Common.{◌∙◌, sym, subst}
 use Rattle.std.specs.Bool.{beq}
 use Rattle.plain_data.specs.Pairs.{lookup}
+use Rattle.plain_data.specs.declared.memory.OutOfMemory.{OutOfMemory}
 use Rattle.meta_state.specs.declared.indices.IndexMetadata.{IndexMetadata}
 use Rattle.meta_state.specs.declared.states.ClusterState.{ClusterState}
 use Rattle.meta_state.specs.Aliases.{is_aliased}
@@ -12,14 +13,12 @@ use Rattle.executors.specs.declared.contexts.TaskContext.{TaskContext}
 use Rattle.executors.specs.declared.contexts.Verdict.{Verdict}
 use Rattle.executors.specs.declared.contexts.Verdict.TheVariants.{Success, Refused}
 use Rattle.executors.specs.declared.executing.Executed.{Executed}
-use Rattle.executors.specs.declared.kinds.Kind.{Kind}
 use Rattle.executors.specs.declared.refusals.TaskRefusal.{TaskRefusal}
 use Rattle.executors.specs.declared.tasks.Task.{Task}
 use Rattle.executors.specs.declared.tasks.Task.TheVariants as task
 use Rattle.executors.specs.AliasTasks.{add_refusal, added_at, remove_refusal, removed_at, with_alias}
-use Rattle.executors.specs.Executions.{executed, settled, unless_refused, failed_or, failed_by, made_of, folded, ran_none, ran_more, HasVersionsOf, KeepsVersions}
+use Rattle.executors.specs.Executions.{unless_refused, failed_or, failed_by, made_of, folded, ran_none, ran_more, HasVersionsOf, KeepsVersions}
 use Rattle.executors.specs.IndexTasks.{create_refusal, created_in, delete_refusal, deleted_in, index_setting_refusal, replicas_at, with_replicas, open_refusal, opened_at, with_opened, with_index}
-use Rattle.executors.specs.Kinds.{is_atomic}
 use Rattle.executors.specs.NodeTasks.{join_refusal, joined_in, leave_refusal, left_in}
 use Rattle.executors.specs.Outcomes.{task_outcome, alias_outcome, outcome}
 use Rattle.executors.specs.SettingTasks.{setting_refusal, set_in}
@@ -88,11 +87,11 @@ failed_keeps : (old : ClusterState) (marks : List Mark) (made : Executed) → Ke
 failed_keeps old [] made kept = kept
 failed_keeps old (mark ∷ marks) made kept = verdict_keeps old mark.verdict mark.position (failed_or marks made) (failed_keeps old marks made kept)
 
-either_result : (old : ClusterState) (atomic : Bool) (ran : Ran) → HasVersionsOf old ran.state → KeepsVersions old (if atomic then unless_refused ran else made_of ran)
-either_result old true ran kept = failed_keeps old ran.marks (made_of ran) kept
-either_result old false ran kept = kept
+-- what all tasks of a batch leave keeps its identifier and versions
+pub made_keeps : (state : ClusterState) (contexts : List TaskContext) (ran : Ran) (made : Executed) → ran ≡ folded (ran_none state) contexts → made ≡ made_of ran → KeepsVersions state made
+made_keeps state contexts ran made e f = subst (KeepsVersions state) (sym f) (subst (λ (r : Ran). HasVersionsOf state r.state) (sym e) (folded_keeps (ran_none state) contexts))
 
--- what an executor makes of a state keeps its identifier and versions
-pub executed_keeps : (kind : Kind) (state : ClusterState) (contexts : List TaskContext) → KeepsVersions state (executed kind state contexts)
-unfolding executed
-executed_keeps kind state contexts = either_result state (is_atomic kind) (folded (ran_none state) contexts) (folded_keeps (ran_none state) contexts)
+pub atomic_keeps : (state : ClusterState) (contexts : List TaskContext) (r : Result Executed OutOfMemory) → IfOk r (λ made. made ≡ unless_refused (folded (ran_none state) contexts)) → IfOk r (KeepsVersions state)
+atomic_keeps state contexts (Ok made) e = subst (KeepsVersions state) (sym e)
+    (failed_keeps state (folded (ran_none state) contexts).marks (made_of (folded (ran_none state) contexts)) (folded_keeps (ran_none state) contexts))
+atomic_keeps state contexts (Err _) e = tt

@@ -38,7 +38,13 @@ fn is_setting_key(key: &Text) -> bool
     ensures { result ≡ is_key key.now }
 {
     let bytes = key.as_bytes();
-    begins_well(bytes) && bytes.len() <= 255 && bytes.iter().all(|byte| is_allowed(*byte))
+    begins_well(bytes) && bytes.len() <= 255 && are_allowed(bytes)
+}
+
+fn are_allowed(bytes: &[u8]) -> bool
+    ensures { result ≡ list_all is_key_byte bytes.now }
+{
+    bytes.iter().all(|byte| is_allowed(*byte))
 }
 
 fn begins_well(bytes: &[u8]) -> bool

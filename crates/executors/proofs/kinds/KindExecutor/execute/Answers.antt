@@ -1,0 +1,8 @@
+use Rattle.executors.proofs.Versions.{atomic_keeps, made_keeps}
+use Rattle.executors.proofs.kinds.KindExecutor.execute.Goals as goal
+
+pub returns-then-fails_as_a_whole-clause-versions : goal.returns-then-fails_as_a_whole-clause-versions
+returns-then-fails_as_a_whole-clause-versions c = atomic_keeps c.args.initial.now c.args.contexts.items c.run_atomic.result c.run_atomic.ensures
+
+pub returns-clause-versions : goal.returns-clause-versions
+returns-clause-versions c = made_keeps c.args.initial.now c.args.contexts.items c.in_ok-ran.ran c.made.result c.in_ok-ran.ensures c.made.ensures
