@@ -1,43 +1,66 @@
--- The fold of a batch: how far it has come, and that the count of created indices can still rise.
-use Rattle.std.specs.Prelude.{◌≡◌, ℕ, ◌+◌, ◌≤◌, List, [], ◌∷◌, Result, Ok, Err, IfOk, IsOkAnd, refl}
+-- The fold of a batch: how far it has come, and that the counters that tasks raise can still rise.
+use Rattle.std.specs.Prelude.{◌≡◌, ℕ, ◌+◌, ◌-◌, ◌^◌, ◌<◌, ◌≤◌, Bool, true, false, List, [], ◌∷◌, Option, Some, None, Result, Ok, Err, IfOk, IsOkAnd, refl, if◌then◌else◌}
 use Rattle.std.proofs.Common.{sym, ◌∙◌, ap, subst, arith}
+use Rattle.std.specs.List.{AllByRecursion}
+use Rattle.plain_data.specs.Pairs.{lookup}
 use Rattle.plain_data.specs.declared.memory.OutOfMemory.{OutOfMemory}
+use Rattle.meta_state.specs.declared.indices.IndexMetadata.{IndexMetadata}
 use Rattle.meta_state.specs.declared.states.ClusterState.{ClusterState}
+use Rattle.meta_state.specs.States.{IsRoomy, IsRoomyIndex, AreRoomy}
+use Rattle.executors.specs.declared.batches.Ran.{Ran}
 use Rattle.executors.specs.declared.contexts.TaskContext.{TaskContext}
-use Rattle.executors.specs.declared.outcomes.Ran.{Ran}
-use Rattle.executors.specs.declared.refusals.TaskRefusal.{TaskRefusal}
-use Rattle.executors.specs.declared.tasks.Task.{Task}
-use Rattle.executors.specs.declared.tasks.Task.TheVariants.{CreateIndex, DeleteIndex, IndexSetting, OpenClose, Alias, ClusterSetting, Join, Leave, Reelect}
-use Rattle.executors.specs.Executions.{folded, ran_none, ran_more, HasVersionsOf}
-use Rattle.executors.specs.Outcomes.{task_outcome, outcome, create_refusal, created_in}
-use Rattle.std.specs.Prelude.{Option, Some, None}
+use Rattle.executors.specs.Executions.{folded, ran_none, ran_more, CanRise, CanIndexRise}
+use Rattle.executors.proofs.Counts.{IsCountedState, IsCountedIndex, AreCounted, task_counted}
 
--- the tasks that are left lead from here to where all lead, and each of them may create an index
+-- ---- room to rise: from a state with room on, each counter stays as low as the count of tasks lets it
+
+roomy_index : (index : IndexMetadata) → IsRoomyIndex index → IsCountedIndex (2 ^ 63 - 1) index
+roomy_index index r = record { version = let x = r.version in omega arith; settings_version = let x = r.settings_version in omega arith; aliases_version = let x = r.aliases_version in omega arith }
+
+roomy_indices : (indices : List (List ℕ × IndexMetadata)) → AreRoomy indices → AreCounted (2 ^ 63 - 1) indices
+roomy_indices [] r = tt
+roomy_indices (p ∷ ps) r = (roomy_index p.1 r.0, roomy_indices ps r.1)
+
+pub roomy_counted : (state : ClusterState) → IsRoomy state → IsCountedState (2 ^ 63 - 1) state
+roomy_counted state r = record {
+  term = let x = r.term in omega arith;
+  created = let x = r.created in omega arith;
+  indices = roomy_indices state.metadata.indices r.indices;
+}
+
+low_index : (n : ℕ) (index : IndexMetadata) → n + 2 < 2 ^ 64 → IsCountedIndex n index → CanIndexRise index
+low_index n index low c = record { version = let x = c.version in omega arith; settings_version = let x = c.settings_version in omega arith; aliases_version = let x = c.aliases_version in omega arith }
+
+low_indices : (n : ℕ) (indices : List (List ℕ × IndexMetadata)) → n + 2 < 2 ^ 64 → AreCounted n indices → AllByRecursion (λ p. CanIndexRise p.1) indices
+low_indices n [] low c = tt
+low_indices n (p ∷ ps) low c = (low_index n p.1 low c.0, low_indices n ps low c.1)
+
+pub low_rises : (n : ℕ) (state : ClusterState) → n + 2 < 2 ^ 64 → IsCountedState n state → CanRise state
+low_rises n state low c = record {
+  term = let x = c.term in omega arith;
+  created = let x = c.created in omega arith;
+  indices = low_indices n state.metadata.indices low c.indices;
+}
+
+-- ---- the loop of a batch
+
+-- the tasks that are left lead from here to where all lead, and each of them may raise each counter
 pub record IsUnderWay (initial : ClusterState) (all : List TaskContext) (count : ℕ) (left : List TaskContext) (rest : ℕ) (ran : Ran) : Type 0 where
   pub leads : folded ran left ≡ folded (ran_none initial) all
-  pub counts : ran.state.metadata.created + rest ≤ initial.metadata.created + count
+  pub height : ℕ
+  pub counted : IsCountedState height ran.state
+  pub room : height + rest ≤ 2 ^ 63 - 1 + count
 
--- one task creates one index at most
-created_rises : (refusal : Option TaskRefusal) (state : ClusterState) (index : List ℕ) (shards replicas : ℕ)
-    → (outcome refusal state (created_in state index shards replicas)).0.metadata.created ≤ state.metadata.created + 1
-created_rises None state index shards replicas = omega arith
-created_rises (Some refusal) state index shards replicas = omega arith
+pub under_way_first : (initial : ClusterState) (all items : List TaskContext) (count n : ℕ) (r : Result Ran OutOfMemory)
+    → IsRoomy initial → items ≡ all → n ≡ count → IfOk r (λ ran. ran ≡ ran_none initial) → IfOk r (IsUnderWay initial all count items n)
+under_way_first initial all items count n (Ok ran) roomy same long e = subst (IsUnderWay initial all count items n) (sym e)
+    (record { leads = ap (folded (ran_none initial)) same; height = 2 ^ 63 - 1; counted = roomy_counted initial roomy; room = omega arith })
+under_way_first initial all items count n (Err _) roomy same long e = tt
 
-outcome_rises : (state : ClusterState) (task : Task) → (task_outcome state task).0.metadata.created ≤ state.metadata.created + 1
-outcome_rises state (CreateIndex index shards replicas) = created_rises (create_refusal state index shards replicas) state index shards replicas
-outcome_rises state (DeleteIndex _) = omega arith
-outcome_rises state (IndexSetting _ _ _) = omega arith
-outcome_rises state (OpenClose _ _) = omega arith
-outcome_rises state (Alias _ _ _) = omega arith
-outcome_rises state (ClusterSetting _ _) = omega arith
-outcome_rises state (Join _) = omega arith
-outcome_rises state (Leave _) = omega arith
-outcome_rises state Reelect = omega arith
-
-pub under_way_first : (initial : ClusterState) (all : List TaskContext) (count : ℕ) (r : Result Ran OutOfMemory)
-    → IfOk r (λ ran. ran ≡ ran_none initial) → IfOk r (IsUnderWay initial all count all count)
-under_way_first initial all count (Ok ran) e = subst (IsUnderWay initial all count all count) (sym e) (record { leads = refl; counts = omega arith })
-under_way_first initial all count (Err _) e = tt
+pub under_way_rises : (initial : ClusterState) (all items : List TaskContext) (count n rest : ℕ) (r : Result Ran OutOfMemory)
+    → count < 2 ^ 63 → rest + 1 ≡ n → IfOk r (IsUnderWay initial all count items n) → IfOk r (λ before. CanRise before.state)
+under_way_rises initial all items count n rest (Ok ran) low one h = low_rises h.height ran.state (let room = h.room in omega arith) h.counted
+under_way_rises initial all items count n rest (Err _) low one h = tt
 
 pub under_way_next : (initial : ClusterState) (all : List TaskContext) (count : ℕ) (context : TaskContext) (items left : List TaskContext) (n rest : ℕ) (r s : Result Ran OutOfMemory)
     → items ≡ context ∷ left → rest + 1 ≡ n
@@ -47,7 +70,9 @@ unfolding folded
 under_way_next initial all count context items left n rest (Ok before) (Ok next) front one h e = subst (IsUnderWay initial all count left rest) (sym e)
     (record {
       leads = ap (folded before) (sym front) ∙ h.leads;
-      counts = let rises = outcome_rises before.state context.task in let start = h.counts in omega arith;
+      height = h.height + 1;
+      counted = task_counted h.height before.state context.task h.counted;
+      room = let room = h.room in omega arith;
     })
 under_way_next initial all count context items left n rest (Err _) (Ok next) front one h e = absurd e
 under_way_next initial all count context items left n rest r (Err _) front one h e = tt
@@ -57,33 +82,3 @@ pub under_way_last : (initial : ClusterState) (all : List TaskContext) (count : 
 unfolding folded
 under_way_last initial all count items n (Ok ran) none h = ap (folded ran) (sym none) ∙ h.leads
 under_way_last initial all count items n (Err _) none h = tt
-
--- ---- no version of the state rises
-
-same_versions : (state : ClusterState) → HasVersionsOf state state
-same_versions state = record { id = refl; version = refl; metadata_version = refl }
-
-then_versions : (a b c : ClusterState) → HasVersionsOf a b → HasVersionsOf b c → HasVersionsOf a c
-then_versions a b c p q = record { id = q.id ∙ p.id; version = q.version ∙ p.version; metadata_version = q.metadata_version ∙ p.metadata_version }
-
-created_keeps : (refusal : Option TaskRefusal) (state : ClusterState) (index : List ℕ) (shards replicas : ℕ)
-    → HasVersionsOf state (outcome refusal state (created_in state index shards replicas)).0
-created_keeps None state index shards replicas = record { id = refl; version = refl; metadata_version = refl }
-created_keeps (Some refusal) state index shards replicas = same_versions state
-
-outcome_keeps : (state : ClusterState) (task : Task) → HasVersionsOf state (task_outcome state task).0
-outcome_keeps state (CreateIndex index shards replicas) = created_keeps (create_refusal state index shards replicas) state index shards replicas
-outcome_keeps state (DeleteIndex _) = same_versions state
-outcome_keeps state (IndexSetting _ _ _) = same_versions state
-outcome_keeps state (OpenClose _ _) = same_versions state
-outcome_keeps state (Alias _ _ _) = same_versions state
-outcome_keeps state (ClusterSetting _ _) = same_versions state
-outcome_keeps state (Join _) = same_versions state
-outcome_keeps state (Leave _) = same_versions state
-outcome_keeps state Reelect = same_versions state
-
-pub folded_keeps : (ran : Ran) (contexts : List TaskContext) → HasVersionsOf ran.state (folded ran contexts).state
-unfolding folded
-folded_keeps ran [] = same_versions ran.state
-folded_keeps ran (context ∷ contexts) =
-    then_versions _ _ _ (outcome_keeps ran.state context.task) (folded_keeps (ran_more ran context) contexts)

@@ -1,4 +1,7 @@
+pub mod Atomic
 pub mod Counts
 pub mod Fold
 pub mod Numbering
-pub mod Taking
+pub mod Rising
+pub mod Takes
+pub mod Versions

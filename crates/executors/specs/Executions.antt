@@ -1,13 +1,19 @@
 -- What an executor makes of a batch: a fold over its tasks, each on the state that those before it left.
-use Rattle.std.specs.Prelude.{◌≡◌, ℕ, ◌-◌, ◌^◌, ◌<◌, List, [], ◌∷◌, ◌++◌, map}
+use Rattle.std.specs.Prelude.{◌≡◌, ℕ, ◌-◌, ◌^◌, ◌<◌, List, [], ◌∷◌, ◌++◌, map, if◌then◌else◌}
+use Rattle.std.specs.List.{AllByRecursion}
+use Rattle.meta_state.specs.declared.indices.IndexMetadata.{IndexMetadata}
 use Rattle.meta_state.specs.declared.states.ClusterState.{ClusterState}
 use Rattle.executors.specs.declared.contexts.TaskContext.{TaskContext}
 use Rattle.executors.specs.declared.executing.Executed.{Executed}
 use Rattle.executors.specs.declared.executing.Executed.TheVariants.{Made, Failed}
+use Rattle.executors.specs.declared.contexts.Mark.{Mark}
+use Rattle.executors.specs.declared.contexts.Verdict.{Verdict}
+use Rattle.executors.specs.declared.contexts.Verdict.TheVariants.{Success, Refused}
 use Rattle.executors.specs.declared.kinds.Kind.{Kind}
-use Rattle.executors.specs.declared.outcomes.Ran.{Ran}
+use Rattle.executors.specs.declared.batches.Ran.{Ran}
 use Rattle.executors.specs.declared.tasks.Task.{Task}
 use Rattle.executors.specs.Contexts.{marked}
+use Rattle.executors.specs.Kinds.{is_atomic}
 use Rattle.executors.specs.Outcomes.{task_outcome}
 
 abbrev pub tasks_of : List TaskContext → List Task
@@ -32,9 +38,27 @@ folded ran (context ∷ contexts) = folded (ran_more ran context) contexts
 abbrev pub made_of : Ran → Executed
 made_of ran = Made ran.state ran.marks
 
+-- a refused task fails its batch
+abbrev pub failed_by : Verdict → ℕ → Executed → Executed
+failed_by Success position rest = rest
+failed_by (Refused refusal) position rest = Failed position refusal
+
+-- the first refused task of a batch fails it
+abbrev pub failed_or : List Mark → Executed → Executed
+failed_or [] made = made
+failed_or (mark ∷ marks) made = failed_by mark.verdict mark.position (failed_or marks made)
+
+-- a batch that fails as a whole where a task is refused, whatever was marked before
+abbrev pub unless_refused : Ran → Executed
+unless_refused ran = failed_or ran.marks (made_of ran)
+
+-- what follows the last task
+abbrev pub settled : Kind → Ran → Executed
+settled kind ran = if is_atomic kind then unless_refused ran else made_of ran
+
 -- what a kind of executor makes of a batch on a state
 unfoldable pub executed : Kind → ClusterState → List TaskContext → Executed
-executed kind state contexts = made_of (folded (ran_none state) contexts)
+executed kind state contexts = settled kind (folded (ran_none state) contexts)
 
 -- two states whose identifier, version and metadata version are the same
 pub record HasVersionsOf (old new : ClusterState) : Type 0 where
@@ -47,6 +71,30 @@ abbrev pub KeepsVersions : ClusterState → Executed → Type 0
 KeepsVersions old (Made state marks) = HasVersionsOf old state
 KeepsVersions old (Failed position refusal) = Unit {0}
 
--- one more index can be counted
-abbrev pub CanCreate : Ran → Type 0
-CanCreate ran = ran.state.metadata.created < 2 ^ 64 - 1
+-- each version of an index can rise once more
+pub record CanIndexRise (index : IndexMetadata) : Type 0 where
+  pub version : index.version < 2 ^ 64 - 1
+  pub settings_version : index.settings_version < 2 ^ 64 - 1
+  pub aliases_version : index.aliases_version < 2 ^ 64 - 1
+
+-- each counter that tasks raise can rise once more
+pub record CanRise (state : ClusterState) : Type 0 where
+  pub term : state.term < 2 ^ 64 - 1
+  pub created : state.metadata.created < 2 ^ 64 - 1
+  pub indices : AllByRecursion (λ p. CanIndexRise p.1) state.metadata.indices
+
+-- ---- a batch that stops at its first refused task
+
+-- after one task more
+abbrev pub attempted_by : Verdict → ℕ → Ran → Executed
+attempted_by Success position ran = made_of ran
+attempted_by (Refused refusal) position ran = Failed position refusal
+
+abbrev pub attempted : Executed → TaskContext → Executed
+attempted (Made state marks) context =
+    attempted_by (task_outcome state context.task).1 context.position (ran_more (record { state = state; marks = marks }) context)
+attempted (Failed position refusal) context = Failed position refusal
+
+abbrev pub CanGoOn : Executed → Type 0
+CanGoOn (Made state marks) = CanRise state
+CanGoOn (Failed position refusal) = Unit {0}

@@ -1,6 +1,10 @@
+pub mod AliasTasks
 pub mod Contexts
 pub mod Executions
+pub mod IndexTasks
 pub mod Kinds
+pub mod NodeTasks
 pub mod Outcomes
 pub mod Scripts
+pub mod SettingTasks
 pub mod Words

@@ -1,10 +1,10 @@
 ghost use Rattle.std.specs.Prelude.{◌≡◌, Bool};
 ghost use Rattle.executors.specs.Executions.{executed};
-ghost use Rattle.executors.specs.Kinds.{accepts, needs_master};
+ghost use Rattle.executors.specs.Kinds.{accepts, is_atomic, needs_master};
 
+use crate::batches::{run_atomic, run_batch};
 use crate::contexts::TaskContext;
 use crate::executing::{Executed, Executor};
-use crate::outcomes::run_batch;
 use crate::tasks::Task;
 use meta_state::ClusterState;
 use plain_data::OutOfMemory;
@@ -29,6 +29,15 @@ pub enum Kind {
     Reelect,
 }
 
+impl Kind {
+    /// Whether one refused task fails its whole batch.
+    fn fails_as_a_whole(&self) -> bool
+        ensures { result ≡ is_atomic self.now }
+    {
+        matches!(self, Kind::AliasesAtomic)
+    }
+}
+
 impl Executor for Kind {
     ghost takes = { accepts };
 
@@ -39,6 +48,15 @@ impl Executor for Kind {
     fn accepts(&self, task: &Task) -> bool {
         match (self, task) {
             (Kind::CreateIndex, Task::CreateIndex { .. }) => true,
+            (Kind::DeleteIndex, Task::DeleteIndex { .. }) => true,
+            (Kind::IndexSettings, Task::IndexSetting { .. }) => true,
+            (Kind::OpenClose, Task::OpenClose { .. }) => true,
+            (Kind::Aliases, Task::Alias { .. }) => true,
+            (Kind::AliasesAtomic, Task::Alias { .. }) => true,
+            (Kind::ClusterSettings, Task::ClusterSetting { .. }) => true,
+            (Kind::Nodes, Task::Join { .. }) => true,
+            (Kind::Nodes, Task::Leave { .. }) => true,
+            (Kind::Reelect, Task::Reelect) => true,
             _ => false,
         }
     }
@@ -57,7 +75,10 @@ impl Executor for Kind {
         initial: &ClusterState,
         contexts: Vec<TaskContext>,
     ) -> Result<Executed, OutOfMemory> {
+        if self.fails_as_a_whole() {
+            return run_atomic(alloc, initial, contexts);
+        }
         let ran = run_batch(alloc, initial, contexts)?;
-        Ok(ran.settled())
+        Ok(ran.made())
     }
 }

@@ -2,15 +2,20 @@
 //! state.
 #![tactic(auto)]
 
+mod alias_tasks;
+mod batches;
 mod contexts;
 mod ends;
 mod executing;
 mod faults;
+mod index_tasks;
 mod kinds;
+mod node_tasks;
 mod outcomes;
 mod queues;
 mod refusals;
 mod scripts;
+mod setting_tasks;
 mod steps;
 mod tasks;
 

@@ -2,10 +2,9 @@ ghost use Rattle.std.specs.Prelude.{◌≡◌};
 ghost use Rattle.std.specs.List.{list_all};
 ghost use Rattle.executors.specs.Executions.{tasks_of};
 ghost use Rattle.executors.specs.Kinds.{accepts};
-ghost use Rattle.executors.specs.declared.kinds.Kind.TheVariants.{CreateIndex};
 
 use crate::*;
-use meta_state::{ClusterState, IndexMetadata, NodeInfo};
+use meta_state::{ClusterState, IndexMetadata, Next, NodeInfo, next_state, to_json};
 use plain_data::{Items, NameSet, Text};
 use std::alloc::Global;
 use std::process::Abort;
@@ -102,28 +101,40 @@ fn create(alloc: Global, index: &str, shards: u64, replicas: u64) -> Result<Task
     })
 }
 
-fn are_taken(contexts: &[TaskContext]) -> bool
-    ensures { result ≡ list_all (accepts CreateIndex) (tasks_of contexts.now) }
+fn are_taken(kind: Kind, contexts: &[TaskContext]) -> bool
+    ensures { result ≡ list_all (accepts kind) (tasks_of contexts.now) }
 {
     for context in contexts {
-        if !Kind::CreateIndex.accepts(context.task()) {
+        if !kind.accepts(context.task()) {
             return false;
         }
     }
     true
 }
 
-// What the tasks make of a state.
+// What an executor makes of tasks on a state.
+fn execute(
+    rt: &impl Abort,
+    alloc: Global,
+    kind: Kind,
+    state: &ClusterState,
+    tasks: Vec<Task>,
+) -> Result<Executed, Fail> {
+    assert!(rt; state.roomy() && tasks.len() < 100);
+    let contexts = number(alloc, tasks)?;
+    assert!(rt; are_taken(kind, &contexts));
+    Ok(kind.execute(alloc, state, contexts)?)
+}
+
+// The same where the batch doesn't fail as a whole.
 fn run(
     rt: &impl Abort,
     alloc: Global,
+    kind: Kind,
     state: &ClusterState,
     tasks: Vec<Task>,
 ) -> Result<(ClusterState, Items<Mark>), Fail> {
-    assert!(rt; state.roomy() && tasks.len() < 100);
-    let contexts = number(alloc, tasks)?;
-    assert!(rt; are_taken(&contexts));
-    match Kind::CreateIndex.execute(alloc, state, contexts)? {
+    match execute(rt, alloc, kind, state, tasks)? {
         Executed::Made { state, marks } => Ok((state, marks)),
         Executed::Failed { position, refusal } => panic!(rt; "failed at {position} for {refusal}"),
     }
@@ -173,7 +184,7 @@ fn batch(alloc: Global) -> Result<Vec<Task>, Fail> {
 #[test]
 fn indices_are_created_or_refused_one_after_the_other(rt: HostRuntime) -> Result<(), Fail> {
     let alloc = rt.alloc();
-    let (made, marks) = run(&rt, alloc, &demo(alloc)?, batch(alloc)?)?;
+    let (made, marks) = run(&rt, alloc, Kind::CreateIndex, &demo(alloc)?, batch(alloc)?)?;
     assert!(rt; marks.len() == 14);
     for (place, (mark, row)) in marks.as_slice().iter().zip(TABLE.iter()).enumerate() {
         assert!(rt;
@@ -199,11 +210,12 @@ fn indices_are_created_or_refused_one_after_the_other(rt: HostRuntime) -> Result
 fn a_batch_of_none_or_of_a_refusal_changes_nothing(rt: HostRuntime) -> Result<(), Fail> {
     let alloc = rt.alloc();
     let state = demo(alloc)?;
-    let (made, marks) = run(&rt, alloc, &state, Vec::new(alloc))?;
+    let (made, marks) = run(&rt, alloc, Kind::CreateIndex, &state, Vec::new(alloc))?;
     assert!(rt; made == state && marks.is_empty());
     let (made, marks) = run(
         &rt,
         alloc,
+        Kind::CreateIndex,
         &state,
         vec![in alloc; create(alloc, "taken", 1, 1)?]?,
     )?;
@@ -230,18 +242,283 @@ fn a_task_is_copied_and_completed(rt: HostRuntime) -> Result<(), Fail> {
     Ok(())
 }
 
+// What a row of a table asks for.
+#[derive(Clone, Copy)]
+enum Act {
+    Create,
+    Delete,
+    Set,
+    Open,
+    Shut,
+    Add,
+    Remove,
+
+    // A value of so many letters.
+    Put,
+
+    // A key of so many letters.
+    PutLong,
+    Clear,
+    Join,
+    Leave,
+    Reelect,
+}
+
+fn kind_of(act: Act) -> Kind {
+    match act {
+        Act::Create => Kind::CreateIndex,
+        Act::Delete => Kind::DeleteIndex,
+        Act::Set => Kind::IndexSettings,
+        Act::Open | Act::Shut => Kind::OpenClose,
+        Act::Add | Act::Remove => Kind::Aliases,
+        Act::Put | Act::PutLong | Act::Clear => Kind::ClusterSettings,
+        Act::Join | Act::Leave => Kind::Nodes,
+        Act::Reelect => Kind::Reelect,
+    }
+}
+
+fn letters(alloc: Global, count: u64) -> Result<Text, Fail> {
+    let mut name = String::new(alloc);
+    for _ in 0..count {
+        name.push_str("v")?;
+    }
+    Ok(Text::from_string(name))
+}
+
+// The task of a row, by its two names and its number.
+fn asked(alloc: Global, act: Act, name: &str, other: &str, number: u64) -> Result<Task, Fail> {
+    let index = text(alloc, name)?;
+    let alias = text(alloc, other)?;
+    let long = letters(alloc, number)?;
+    Ok(match act {
+        Act::Create => Task::CreateIndex {
+            index,
+            shards: 2,
+            replicas: number,
+        },
+        Act::Delete => Task::DeleteIndex { index },
+        Act::Set => Task::IndexSetting {
+            index,
+            key: alias,
+            value: number,
+        },
+        Act::Open => Task::OpenClose {
+            index,
+            opened: true,
+        },
+        Act::Shut => Task::OpenClose {
+            index,
+            opened: false,
+        },
+        Act::Add => Task::Alias {
+            index,
+            alias,
+            add: true,
+        },
+        Act::Remove => Task::Alias {
+            index,
+            alias,
+            add: false,
+        },
+        Act::Put => Task::ClusterSetting {
+            key: index,
+            value: Some(long),
+        },
+        Act::PutLong => Task::ClusterSetting {
+            key: long,
+            value: Some(index),
+        },
+        Act::Clear => Task::ClusterSetting {
+            key: index,
+            value: None,
+        },
+        Act::Join => Task::Join {
+            node: NodeInfo {
+                name: index,
+                eligible: number == 1,
+            },
+        },
+        Act::Leave => Task::Leave { name: index },
+        Act::Reelect => Task::Reelect,
+    })
+}
+
+const REPLICAS: &str = "index.number_of_replicas";
+
+const SHARDS: &str = "index.number_of_shards";
+
+// A task, and why it is refused where it is, on the state in which the index "taken" has the alias "other".
+const CASES: [(Act, &str, &str, u64, Option<TaskRefusal>); 35] = [
+    (Act::Delete, "taken", "", 0, None),
+    (Act::Delete, "other", "", 0, Some(TaskRefusal::NotFound)),
+    (Act::Set, "taken", REPLICAS, 1000, None),
+    (Act::Set, "b", "index.codec", 1001, Some(TaskRefusal::NotFound)),
+    (Act::Set, "taken", "index.codec", 1, Some(TaskRefusal::BadValue)),
+    (Act::Set, "taken", SHARDS, 1001, Some(TaskRefusal::FinalSetting)),
+    (Act::Set, "taken", REPLICAS, 1001, Some(TaskRefusal::BadValue)),
+    (Act::Open, "taken", "", 0, None),
+    (Act::Open, "b", "", 0, Some(TaskRefusal::NotFound)),
+    (Act::Shut, "b", "", 0, Some(TaskRefusal::NotFound)),
+    (Act::Add, "taken", "x", 0, None),
+    (Act::Add, "taken", "other", 0, None),
+    (Act::Add, "b", "X", 0, Some(TaskRefusal::NotFound)),
+    (Act::Add, "taken", "X", 0, Some(TaskRefusal::InvalidName)),
+    (Act::Add, "taken", "taken", 0, Some(TaskRefusal::AliasClash)),
+    (Act::Remove, "taken", "other", 0, None),
+    (Act::Remove, "b", "other", 0, Some(TaskRefusal::NotFound)),
+    (Act::Remove, "taken", "x", 0, Some(TaskRefusal::NotFound)),
+    (Act::Put, "k.0_-", "", 1024, None),
+    (Act::Put, "k", "", 1025, Some(TaskRefusal::BadValue)),
+    (Act::Put, "0", "", 0, None),
+    (Act::Put, "", "", 1, Some(TaskRefusal::BadValue)),
+    (Act::Put, ".k", "", 1, Some(TaskRefusal::BadValue)),
+    (Act::Put, "kK", "", 1, Some(TaskRefusal::BadValue)),
+    (Act::PutLong, "v", "", 255, None),
+    (Act::PutLong, "v", "", 256, Some(TaskRefusal::BadValue)),
+    (Act::Clear, "k", "", 0, None),
+    (Act::Clear, "-k", "", 0, Some(TaskRefusal::BadValue)),
+    (Act::Join, "n1", "", 1, None),
+    (Act::Join, "n0", "", 0, Some(TaskRefusal::NodeKnown)),
+    (Act::Leave, "n1", "", 0, Some(TaskRefusal::NodeUnknown)),
+    (Act::Leave, "n0", "", 0, Some(TaskRefusal::MasterMayNotLeave)),
+    (Act::Reelect, "", "", 0, None),
+    (Act::Create, "other", "", 0, Some(TaskRefusal::AliasClash)),
+    (Act::Create, "b", "", 0, None),
+];
+
+fn verdict_of(refusal: Option<TaskRefusal>) -> Verdict {
+    match refusal {
+        None => Verdict::Success,
+        Some(refusal) => Verdict::Refused(refusal),
+    }
+}
+
+#[test]
+fn a_task_is_refused_for_the_first_check_that_fails(rt: HostRuntime) -> Result<(), Fail> {
+    let alloc = rt.alloc();
+    let state = demo(alloc)?;
+    for (act, name, other, number, refusal) in CASES {
+        let tasks = vec![in alloc; asked(alloc, act, name, other, number)?]?;
+        let (made, marks) = run(&rt, alloc, kind_of(act), &state, tasks)?;
+        let verdict = match marks.get(0) {
+            None => None,
+            Some(mark) => Some(mark.verdict()),
+        };
+        assert!(rt; verdict == Some(verdict_of(refusal)), "at {name} and {other}");
+        assert!(rt; refusal.is_none() || made == state, "at {name} and {other}");
+    }
+    Ok(())
+}
+
+// Tasks that follow one another, each in a batch of its own. Where replicas, flag or alias don't differ nothing
+// changes, nor where an absent key is removed.
+const STEPS: [(Act, &str, &str, u64); 20] = [
+    (Act::Create, "a", "", 0),
+    (Act::Create, "gone", "", 0),
+    (Act::Add, "gone", "g", 0),
+    (Act::Delete, "gone", "", 0),
+    (Act::Set, "a", REPLICAS, 3),
+    (Act::Set, "a", REPLICAS, 3),
+    (Act::Shut, "a", "", 0),
+    (Act::Shut, "a", "", 0),
+    (Act::Add, "a", "x", 0),
+    (Act::Add, "a", "x", 0),
+    (Act::Remove, "taken", "other", 0),
+    (Act::Put, "k", "", 2),
+    (Act::Put, "gone", "", 2),
+    (Act::Clear, "gone", "", 0),
+    (Act::Clear, "gone", "", 0),
+    (Act::Join, "n1", "", 0),
+    (Act::Join, "n2", "", 1),
+    (Act::Join, "n3", "", 1),
+    (Act::Leave, "n3", "", 0),
+    (Act::Reelect, "", "", 0),
+];
+
+const AFTER: &str =
+    r#"{"cluster":"demo","id":1,"master":"n0","metadata":{"created":3,"indices":{"a":{"aliases":["x"],"aliases_version":2,"id":2,"open":false,"replicas":3,"settings_version":2,"shards":2,"version":4},"taken":{"aliases":[],"aliases_version":3,"id":1,"open":true,"replicas":1,"settings_version":1,"shards":1,"version":3}},"settings":{"k":"vv"},"version":1},"nodes":{"n0":{"eligible":true},"n1":{"eligible":false},"n2":{"eligible":true}},"term":2,"version":1}"#;
+
+#[test]
+fn tasks_change_what_they_name(rt: HostRuntime) -> Result<(), Fail> {
+    let alloc = rt.alloc();
+    let mut state = demo(alloc)?;
+    for (act, name, other, number) in STEPS {
+        let tasks = vec![in alloc; asked(alloc, act, name, other, number)?]?;
+        let (made, _) = run(&rt, alloc, kind_of(act), &state, tasks)?;
+        state = made;
+    }
+    assert_eq!(rt; to_json(alloc, &state)?.as_str(), AFTER);
+    Ok(())
+}
+
+// Where the atomic executor fails two additions, if it does, by the index of each.
+fn failure(
+    rt: &impl Abort,
+    alloc: Global,
+    first: &str,
+    second: &str,
+) -> Result<Option<(u32, TaskRefusal)>, Fail> {
+    let mut tasks = Vec::new(alloc);
+    tasks.push(asked(alloc, Act::Add, first, "x", 0)?)?;
+    tasks.push(asked(alloc, Act::Add, second, "y", 0)?)?;
+    Ok(
+        match execute(rt, alloc, Kind::AliasesAtomic, &demo(alloc)?, tasks)? {
+            Executed::Made { .. } => None,
+            Executed::Failed { position, refusal } => Some((position, refusal)),
+        },
+    )
+}
+
+#[test]
+fn an_atomic_batch_fails_for_its_first_refused_task(rt: HostRuntime) -> Result<(), Fail> {
+    let table = [
+        ("taken", "taken", None),
+        ("taken", "b", Some((1u32, TaskRefusal::NotFound))),
+        ("b", "taken", Some((0u32, TaskRefusal::NotFound))),
+    ];
+    for (first, second, wanted) in table {
+        let found = failure(&rt, rt.alloc(), first, second)?;
+        assert!(rt; found == wanted, "at {first} and {second}");
+    }
+    Ok(())
+}
+
+#[test]
+fn a_setting_that_comes_and_goes_changes_nothing(rt: HostRuntime) -> Result<(), Fail> {
+    let alloc = rt.alloc();
+    let state = demo(alloc)?;
+    let mut tasks = Vec::new(alloc);
+    tasks.push(asked(alloc, Act::Put, "k", "", 1)?)?;
+    tasks.push(asked(alloc, Act::Clear, "k", "", 0)?)?;
+    let (made, _) = run(&rt, alloc, Kind::ClusterSettings, &state, tasks)?;
+    assert!(rt; state.roomy());
+    assert!(rt; matches!(next_state(&state, made, 2), Next::Same));
+    Ok(())
+}
+
+const KINDS: [Kind; 9] = [
+    Kind::CreateIndex,
+    Kind::DeleteIndex,
+    Kind::IndexSettings,
+    Kind::OpenClose,
+    Kind::Aliases,
+    Kind::ClusterSettings,
+    Kind::Nodes,
+    Kind::Reelect,
+    Kind::AliasesAtomic,
+];
+
+// Of the tasks 0 to 9, which are of an executor's kind; by the place of the executor.
+const TAKEN: [usize; 10] = [0, 1, 2, 3, 4, 5, 5, 6, 6, 7];
+
 #[test]
 fn an_executor_takes_the_tasks_of_its_kind(rt: HostRuntime) -> Result<(), Fail> {
-    for kind in 0u32..10 {
-        let task = task_of(rt.alloc(), kind)?;
-        assert!(rt;
-            Kind::CreateIndex.accepts(&task) == (kind == 0),
-            "task {kind}"
-        );
-        assert!(rt;
-            !Kind::DeleteIndex.accepts(&task) && !Kind::Reelect.accepts(&task),
-            "task {kind}"
-        );
+    for (number, taken) in TAKEN.iter().enumerate() {
+        let task = task_of(rt.alloc(), number as u32)?;
+        for (place, kind) in KINDS.iter().enumerate() {
+            let wanted = place == *taken || (place == 8 && *taken == 4);
+            assert!(rt; kind.accepts(&task) == wanted, "task {number} at {place}");
+        }
     }
     assert!(rt; Kind::CreateIndex.needs_master() && Kind::Nodes.needs_master());
     assert!(rt; !Kind::Reelect.needs_master());

@@ -1,4 +1,5 @@
 ghost use Rattle.std.specs.Prelude.{◌≡◌, IfOk};
+ghost use Rattle.meta_state.specs.Aliases.{has_alias};
 ghost use Rattle.meta_state.specs.Exact.{metadata_decides};
 
 use crate::indices::IndexMetadata;
@@ -34,6 +35,18 @@ impl Metadata {
             settings,
             indices,
         })
+    }
+
+    /// Whether some index has an alias.
+    pub fn has_alias(&self, alias: &Text) -> bool
+        ensures { result ≡ has_alias alias.now self.now.indices }
+    {
+        for (_, index) in self.indices.iter() {
+            if index.aliases.contains(alias) {
+                return true;
+            }
+        }
+        false
     }
 }
 

@@ -15,7 +15,7 @@ mod watches;
 
 pub use cluster_metadata::Metadata;
 pub use indices::IndexMetadata;
-pub use looks::{Found, Look};
+pub use looks::{Found, Look, lookup};
 pub use naming::{InvalidName, check_index_name};
 pub use nodes::NodeInfo;
 pub use predicates::Pred;

@@ -1,4 +1,12 @@
-use plain_data::{Items, Text};
+ghost use Rattle.std.specs.Prelude.{◌≡◌, IfOk};
+ghost use Rattle.std.specs.Option.{option_copied};
+ghost use Rattle.meta_state.specs.Aliases.{names_with};
+ghost use Rattle.meta_state.specs.Looks.{found_at, found_index, found_names, found_value};
+
+use crate::indices::IndexMetadata;
+use crate::states::ClusterState;
+use plain_data::{Items, Map, OutOfMemory, Text};
+use std::alloc::Global;
 
 /// What a reader looks at in a state.
 #[derive(Clone, Debug, Drop, PartialEq, Eq)]
@@ -32,4 +40,68 @@ pub enum Found {
 
     /// The value of the setting.
     Value(Text),
+}
+
+/// What a look finds in a state.
+#[tactic(auto, unfolding(crate::specs::Looks::found_at))]
+pub fn lookup(alloc: Global, state: &ClusterState, look: &Look) -> Result<Found, OutOfMemory>
+    ensures { IfOk result (λ made. made ≡ found_at state.now look.now) }
+{
+    match look {
+        Look::Index(name) => Ok(index_found(state.metadata.indices.get(name))),
+        Look::Alias(alias) => {
+            let names = names_of_alias(alloc, alias, &state.metadata.indices)?;
+            Ok(names_found(names))
+        }
+        Look::Setting(key) => value_found(state.metadata.settings.get(key)),
+    }
+}
+
+fn index_found(index: Option<&IndexMetadata>) -> Found
+    ensures { result ≡ found_index (option_copied index.entry) }
+{
+    match index {
+        None => Found::Missing,
+        Some(index) => Found::Index {
+            id: index.id,
+            opened: index.opened,
+            shards: index.shards,
+            replicas: index.replicas,
+        },
+    }
+}
+
+fn names_of_alias(
+    alloc: Global,
+    alias: &Text,
+    indices: &Map<IndexMetadata>,
+) -> Result<Items<Text>, OutOfMemory>
+    ensures { IfOk result (λ made. made ≡ names_with alias.now indices.now) }
+{
+    let mut names = Items::new(alloc);
+    for (name, index) in indices.iter() {
+        if index.aliases.contains(alias) {
+            names.push(name.copy()?)?;
+        }
+    }
+    Ok(names)
+}
+
+fn names_found(names: Items<Text>) -> Found
+    ensures { result ≡ found_names names }
+{
+    if names.is_empty() {
+        Found::Missing
+    } else {
+        Found::Names(names)
+    }
+}
+
+fn value_found(value: Option<&Text>) -> Result<Found, OutOfMemory>
+    ensures { IfOk result (λ made. made ≡ found_value (option_copied value.entry)) }
+{
+    match value {
+        None => Ok(Found::Missing),
+        Some(text) => Ok(Found::Value(text.copy()?)),
+    }
 }

@@ -1,3 +1,9 @@
+ghost use Rattle.std.specs.Prelude.{◌≡◌, map};
+ghost use Rattle.std.specs.List.{list_all, list_any};
+ghost use Rattle.plain_data.specs.Pairs.{lookup};
+ghost use Rattle.meta_state.specs.Predicates.{is_met, is_value};
+
+use crate::states::ClusterState;
 use plain_data::{Boxed, Items, Text};
 
 /// What a watch waits for: a test of a cluster state.
@@ -26,4 +32,58 @@ pub enum Pred {
 
     /// One is met; of none, none is.
     Any(Items<Pred>),
+}
+
+impl Pred {
+    /// Whether a state meets it, however deep it nests. It takes no memory.
+    #[cycle(testing)]
+    #[tactic(auto, unfolding(crate::specs::Predicates::is_met))]
+    pub fn test(&self, state: &ClusterState) -> bool
+        ensures { result ≡ is_met state.now self.now }
+    {
+        match self {
+            Pred::Index(name) => state.metadata.indices.contains_key(name),
+            Pred::Alias(alias) => state.metadata.has_alias(alias),
+            Pred::Node(name) => state.nodes.contains_key(name),
+            Pred::Version(version) => *version <= state.version,
+            Pred::Setting { key, value } => has_value(state, key, value),
+            Pred::Not(inner) => !inner.get().test(state),
+            Pred::All(parts) => are_all_met(parts.as_slice(), state),
+            Pred::Any(parts) => is_any_met(parts.as_slice(), state),
+        }
+    }
+}
+
+#[cycle(testing)]
+fn are_all_met(parts: &[Pred], state: &ClusterState) -> bool
+    ensures { result ≡ list_all (λ b. b) (map (is_met state.now) parts.now) }
+{
+    for part in parts {
+        if !part.test(state) {
+            return false;
+        }
+    }
+    true
+}
+
+#[cycle(testing)]
+fn is_any_met(parts: &[Pred], state: &ClusterState) -> bool
+    ensures { result ≡ list_any (λ b. b) (map (is_met state.now) parts.now) }
+{
+    for part in parts {
+        if part.test(state) {
+            return true;
+        }
+    }
+    false
+}
+
+// Whether a cluster setting has this value.
+fn has_value(state: &ClusterState, key: &Text, value: &Text) -> bool
+    ensures { result ≡ is_value value.now (lookup key.now state.now.metadata.settings) }
+{
+    match state.metadata.settings.get(key) {
+        None => false,
+        Some(found) => found == value,
+    }
 }

@@ -1,5 +1,5 @@
 use crate::*;
-use plain_data::{NameSet, Text};
+use plain_data::{Boxed, Items, NameSet, Text};
 use std::alloc::Global;
 use std::process::Abort;
 use std::test::Fail;
@@ -316,4 +316,113 @@ fn a_state_is_spelled_with_its_members_in_byte_order(rt: HostRuntime) -> Result<
     expect(&rt, alloc, &demo_of_three(alloc)?, THREE)?;
     expect(&rt, alloc, &created(alloc)?, CREATED)?;
     expect(&rt, alloc, &full(alloc)?, FULL)
+}
+
+// A predicate of a row, and whether the full state meets it.
+const PREDS: [(&str, &str, &str, u64, bool); 14] = [
+    ("index", "logs-1", "", 0, true),
+    ("index", "a", "", 0, false),
+    ("alias", "a", "", 0, true),
+    ("alias", "logs-0", "", 0, false),
+    ("node", "m", "", 0, true),
+    ("node", "n1", "", 0, false),
+    ("node", "not a name", "", 0, false),
+    ("version", "", "", 18446744073709551615, true),
+    ("version", "", "", 0, true),
+    ("setting", "k2", "é", 0, true),
+    ("setting", "k2", "e", 0, false),
+    ("setting", "k", "é", 0, false),
+    ("all", "", "", 0, true),
+    ("any", "", "", 0, false),
+];
+
+fn pred_of(alloc: Global, place: usize) -> Result<Pred, Fail> {
+    let (word, name, value, version, _) = match PREDS.get(place) {
+        None => ("any", "", "", 0, false),
+        Some(row) => *row,
+    };
+    let name = text(alloc, name)?;
+    Ok(match word {
+        "index" => Pred::Index(name),
+        "alias" => Pred::Alias(name),
+        "node" => Pred::Node(name),
+        "version" => Pred::Version(version),
+        "setting" => Pred::Setting {
+            key: name,
+            value: text(alloc, value)?,
+        },
+        "all" => Pred::All(Items::new(alloc)),
+        _ => Pred::Any(Items::new(alloc)),
+    })
+}
+
+fn two(alloc: Global, place: usize, other: usize) -> Result<Items<Pred>, Fail> {
+    let mut preds = Items::new(alloc);
+    preds.push(pred_of(alloc, place)?)?;
+    preds.push(pred_of(alloc, other)?)?;
+    Ok(preds)
+}
+
+fn not(alloc: Global, pred: Pred) -> Result<Pred, Fail> {
+    Ok(Pred::Not(Boxed::new(alloc, pred)?))
+}
+
+#[test]
+fn a_predicate_is_met_by_the_state_that_it_describes(rt: HostRuntime) -> Result<(), Fail> {
+    let alloc = rt.alloc();
+    let state = full(alloc)?;
+    for (place, (_, name, _, _, met)) in PREDS.iter().enumerate() {
+        assert!(rt; pred_of(alloc, place)?.test(&state) == *met, "{place} at {name}");
+        let twice = not(alloc, not(alloc, pred_of(alloc, place)?)?)?;
+        assert!(rt; twice.test(&state) == *met, "not not {place}");
+        assert!(rt; not(alloc, pred_of(alloc, place)?)?.test(&state) != *met, "not {place}");
+        // beside one that is met and one that isn't
+        assert!(rt; Pred::All(two(alloc, 0, place)?).test(&state) == *met, "all {place}");
+        assert!(rt; !Pred::All(two(alloc, place, 1)?).test(&state), "all {place}");
+        assert!(rt; Pred::Any(two(alloc, 1, place)?).test(&state) == *met, "any {place}");
+        assert!(rt; Pred::Any(two(alloc, place, 0)?).test(&state), "any {place}");
+    }
+    Ok(())
+}
+
+fn zero_meets(alloc: Global, version: u64) -> Result<bool, Fail> {
+    Ok(Pred::Version(version).test(&zero(alloc)?))
+}
+
+// Two indices that have the alias "a", and one that hasn't.
+fn shared(alloc: Global) -> Result<ClusterState, Fail> {
+    let mut state = full(alloc)?;
+    put_index(alloc, &mut state, "b", other_index(alloc)?)?;
+    Ok(state)
+}
+
+fn names(alloc: Global, list: &[&str]) -> Result<Found, Fail> {
+    let mut names = Items::new(alloc);
+    for name in list {
+        names.push(text(alloc, name)?)?;
+    }
+    Ok(Found::Names(names))
+}
+
+#[test]
+fn a_look_finds_what_is_there(rt: HostRuntime) -> Result<(), Fail> {
+    let alloc = rt.alloc();
+    let state = shared(alloc)?;
+    let index = lookup(alloc, &state, &Look::Index(text(alloc, "logs-0")?))?;
+    let wanted = Found::Index {
+        id: 3,
+        opened: false,
+        shards: 7,
+        replicas: 0,
+    };
+    assert!(rt; index == wanted);
+    let both = lookup(alloc, &state, &Look::Alias(text(alloc, "a")?))?;
+    assert!(rt; both == names(alloc, &["b", "logs-0"])?);
+    let value = lookup(alloc, &state, &Look::Setting(text(alloc, "k2")?))?;
+    assert!(rt; value == Found::Value(text(alloc, "é")?));
+    for look in [Look::Index(text(alloc, "a")?), Look::Alias(text(alloc, "b2")?), Look::Setting(text(alloc, "k")?)] {
+        assert!(rt; lookup(alloc, &state, &look)? == Found::Missing);
+    }
+    assert!(rt; zero_meets(alloc, 0)? && !zero_meets(alloc, 1)?);
+    Ok(())
 }
