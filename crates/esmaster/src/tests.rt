@@ -79,6 +79,97 @@ fn a_script_has_its_report_or_its_refusal(rt: HostRuntime) -> Result<(), Fail> {
     Ok(())
 }
 
+/// A script of one client, worked out by hand: its steps, the batches and tasks of its report, and what its last state
+/// holds beside what every state of the base script holds.
+struct Worked {
+    steps: &'static str,
+    lines: &'static str,
+    id: u64,
+    metadata: &'static str,
+    term: u64,
+    version: u64,
+}
+
+const WORKED: [Worked; 6] = [
+    // an index that is deleted twice; each step sees the batch that the client awaited last
+    Worked {
+        steps: r#"{"do":"submit","queue":"make","task":{"index":"a"}},{"do":"await","step":0,"for":"task"},{"do":"submit","queue":"drop","task":{"index":"a"}},{"do":"await","step":2,"for":"task"},{"do":"submit","queue":"drop","task":{"index":"a"}}"#,
+        lines: "batch 1 queue make at 0 tasks 0.0/0 published 2 id 2 commit 0 diffs 1 fulls 0 accepted 1\nbatch 2 queue drop at 0 tasks 0.2/1 published 3 id 3 commit 0 diffs 1 fulls 0 accepted 1\nbatch 3 queue drop at 0 tasks 0.4/2 unchanged 3\ntask 0.0 at 0 ok 2\ntask 0.2 at 0 ok 3\ntask 0.4 at 0 refused not_found\n",
+        id: 3,
+        metadata: r#"{"created":1,"indices":{},"settings":{},"version":3}"#,
+        term: 1,
+        version: 3,
+    },
+    // the greatest batch that was awaited counts, and not the last one
+    Worked {
+        steps: r#"{"do":"submit","queue":"make","task":{"index":"a"}},{"do":"await","step":0,"for":"task"},{"do":"submit","queue":"alias","task":{"index":"a","alias":"x","action":"add"}},{"do":"submit","queue":"glob","task":{"key":"k","value":"v"}},{"do":"await","step":3,"for":"task"},{"do":"await","step":2,"for":"task"},{"do":"submit","queue":"drop","task":{"index":"a"}}"#,
+        lines: "batch 1 queue make at 0 tasks 0.0/0 published 2 id 2 commit 0 diffs 1 fulls 0 accepted 1\nbatch 2 queue alias at 0 tasks 0.2/1 published 3 id 3 commit 0 diffs 1 fulls 0 accepted 1\nbatch 3 queue glob at 0 tasks 0.3/1 published 4 id 4 commit 0 diffs 1 fulls 0 accepted 1\nbatch 4 queue drop at 0 tasks 0.6/3 published 5 id 5 commit 0 diffs 1 fulls 0 accepted 1\ntask 0.0 at 0 ok 2\ntask 0.2 at 0 ok 3\ntask 0.3 at 0 ok 4\ntask 0.6 at 0 ok 5\n",
+        id: 5,
+        metadata: r#"{"created":1,"indices":{},"settings":{"k":"v"},"version":5}"#,
+        term: 1,
+        version: 5,
+    },
+    // the number of shards is final
+    Worked {
+        steps: r#"{"do":"submit","queue":"make","task":{"index":"a"}},{"do":"await","step":0,"for":"task"},{"do":"submit","queue":"conf","task":{"index":"a","key":"index.number_of_shards","value":2}}"#,
+        lines: "batch 1 queue make at 0 tasks 0.0/0 published 2 id 2 commit 0 diffs 1 fulls 0 accepted 1\nbatch 2 queue conf at 0 tasks 0.2/1 unchanged 2\ntask 0.0 at 0 ok 2\ntask 0.2 at 0 refused final_setting\n",
+        id: 2,
+        metadata: r#"{"created":1,"indices":{"a":{"aliases":[],"aliases_version":1,"id":1,"open":true,"replicas":1,"settings_version":1,"shards":1,"version":1}},"settings":{},"version":2}"#,
+        term: 1,
+        version: 2,
+    },
+    // a refused alias fails its atomic batch, whose end can be awaited too
+    Worked {
+        steps: r#"{"do":"submit","queue":"make","task":{"index":"a"}},{"do":"submit","queue":"atom","task":{"index":"a","alias":"x","action":"add"}},{"do":"submit","queue":"atom","task":{"index":"b","alias":"y","action":"add"}},{"do":"await","step":2,"for":"task"},{"do":"submit","queue":"atom","task":{"index":"a","alias":"z","action":"remove"}}"#,
+        lines: "batch 1 queue make at 0 tasks 0.0/0 published 2 id 2 commit 0 diffs 1 fulls 0 accepted 1\nbatch 2 queue atom at 0 tasks 0.1/0 published 3 id 3 commit 0 diffs 1 fulls 0 accepted 1\nbatch 3 queue atom at 0 tasks 0.2/0 batch_failed 0 not_found\nbatch 4 queue atom at 0 tasks 0.4/3 batch_failed 0 not_found\ntask 0.0 at 0 ok 2\ntask 0.1 at 0 ok 3\ntask 0.2 at 0 batch_failed 0 not_found\ntask 0.4 at 0 batch_failed 0 not_found\n",
+        id: 3,
+        metadata: r#"{"created":1,"indices":{"a":{"aliases":["x"],"aliases_version":2,"id":1,"open":true,"replicas":1,"settings_version":1,"shards":1,"version":2}},"settings":{},"version":3}"#,
+        term: 1,
+        version: 3,
+    },
+    // what is set as it was changes nothing
+    Worked {
+        steps: r#"{"do":"submit","queue":"make","task":{"index":"a"}},{"do":"submit","queue":"conf","task":{"index":"a","key":"index.number_of_replicas","value":1}},{"do":"submit","queue":"conf","task":{"index":"a","key":"index.number_of_replicas","value":2}},{"do":"submit","queue":"gate","task":{"index":"a","open":true}},{"do":"submit","queue":"gate","task":{"index":"a","open":false}}"#,
+        lines: "batch 1 queue make at 0 tasks 0.0/0 published 2 id 2 commit 0 diffs 1 fulls 0 accepted 1\nbatch 2 queue conf at 0 tasks 0.1/0 unchanged 2\nbatch 3 queue conf at 0 tasks 0.2/0 published 3 id 3 commit 0 diffs 1 fulls 0 accepted 1\nbatch 4 queue gate at 0 tasks 0.3/0 unchanged 3\nbatch 5 queue gate at 0 tasks 0.4/0 published 4 id 4 commit 0 diffs 1 fulls 0 accepted 1\ntask 0.0 at 0 ok 2\ntask 0.1 at 0 unchanged 2\ntask 0.2 at 0 ok 3\ntask 0.3 at 0 unchanged 3\ntask 0.4 at 0 ok 4\n",
+        id: 4,
+        metadata: r#"{"created":1,"indices":{"a":{"aliases":[],"aliases_version":1,"id":1,"open":false,"replicas":2,"settings_version":2,"shards":1,"version":3}},"settings":{},"version":4}"#,
+        term: 1,
+        version: 4,
+    },
+    // a reelect raises the term and no metadata version
+    Worked {
+        steps: r#"{"do":"submit","queue":"vote","task":{}},{"do":"submit","queue":"glob","task":{"key":"k","value":null}}"#,
+        lines: "batch 1 queue vote at 0 tasks 0.0/0 published 2 id 2 commit 0 diffs 1 fulls 0 accepted 1\nbatch 2 queue glob at 0 tasks 0.1/0 unchanged 2\ntask 0.0 at 0 ok 2\ntask 0.1 at 0 unchanged 2\n",
+        id: 2,
+        metadata: r#"{"created":0,"indices":{},"settings":{},"version":1}"#,
+        term: 2,
+        version: 2,
+    },
+];
+
+#[test]
+fn each_worked_script_has_its_report(rt: HostRuntime) -> Result<(), Fail> {
+    let alloc = rt.alloc();
+    for worked in WORKED {
+        let Worked {
+            steps,
+            lines,
+            id,
+            metadata,
+            term,
+            version,
+        } = worked;
+        let clients = format!(in alloc; "[[{steps}]]")?;
+        let (ended, written) = replayed(alloc, script(alloc, clients.as_str())?)?;
+        assert_eq!(rt; ended, Exit::Done, "of {steps}");
+        let report = format!(in alloc;
+            "report 1\n{lines}state {{\"cluster\":\"demo\",\"id\":{id},\"master\":\"n0\",\"metadata\":{metadata},\"nodes\":{{\"n0\":{{\"eligible\":true}}}},\"term\":{term},\"version\":{version}}}\n"
+        )?;
+        assert_eq!(rt; written.as_slice(), report.as_bytes(), "of {steps}");
+    }
+    Ok(())
+}
+
 #[test]
 fn each_of_many_steps_is_a_batch_of_its_own(rt: HostRuntime) -> Result<(), Fail> {
     let alloc = rt.alloc();

@@ -1,5 +1,5 @@
 -- A kept book holds no more entries than its script has steps, so that every counter of its world can rise.
-use Rattle.std.specs.Prelude.{◌≡◌, ℕ, zero, suc, ◌+◌, ◌*◌, ◌<◌, ◌≤◌, Bool, true, false, ◌&&◌, ◌||◌, ◌==◌, List, [], ◌∷◌, length, map, Option, Some, None, option_and_then, slice_get, refl}
+use Rattle.std.specs.Prelude.{◌≡◌, ℕ, zero, suc, ◌+◌, ◌*◌, ◌<◌, ◌≤◌, ◌^◌, Bool, true, false, ◌&&◌, ◌||◌, ◌==◌, List, [], ◌∷◌, length, map, Option, Some, None, option_and_then, slice_get, refl}
 use Rattle.std.proofs.Common.{sym, ◌∙◌, ap, subst, arith}
 use Rattle.std.proofs.Math.Bool.{true≢false}
 use Rattle.std.specs.Cmp.{unsigned_Decides}
@@ -115,7 +115,7 @@ unfolding IsDistinct
 codes_distinct [] ws apart = tt
 codes_distinct (placed ∷ all) ws apart = (codes_apart placed all ws.0 ws.1 apart.0, codes_distinct all ws.1 apart.1)
 
-or_cases : (a b : Bool) (P : Type 0) → (a || b) ≡ true → (a ≡ true → P) → (b ≡ true → P) → P
+pub or_cases : (a b : Bool) (P : Type 0) → (a || b) ≡ true → (a ≡ true → P) → (b ≡ true → P) → P
 or_cases true b P h f g = f refl
 or_cases false b P h f g = g h
 
@@ -167,3 +167,9 @@ kept_has_room script batches end valid kept =
     let few = entries_few script batches end valid kept in
     let fewer = filled_few batches kept.serial.filled in
     subst HasRoom (sym kept.world) (room_of (length (placed_of batches)) (length batches) (world_after script batches) few (omega arith) (world_counted script batches))
+
+pub batches_few : (script : Script) (batches : List Batch) (end : World) → IsScript script → IsKept script batches end → length batches < 2 ^ 32
+batches_few script batches end valid kept =
+    let few = entries_few script batches end valid kept in
+    let fewer = filled_few batches kept.serial.filled in
+    omega arith

@@ -1,7 +1,10 @@
 pub mod Alls
 pub mod Bounds
 pub mod Edges
+pub mod Ending
+pub mod Holding
 pub mod Keeping
+pub mod Naming
 pub mod Resting
 pub mod Serving
 pub mod Single

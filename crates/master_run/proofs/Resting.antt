@@ -1,37 +1,82 @@
 -- The rounds of a replay come to rest: each but the last performs a step or takes an entry, and of both there are few.
-use Rattle.std.specs.Prelude.{◌≡◌, ℕ, zero, suc, ◌+◌, ◌-◌, ◌<◌, ◌≤◌, ◌⊎◌, Bool, true, false, not, List, [], ◌∷◌, length, map, flat_map, Option, Some, None, option_and_then, slice_get, slice_set, refl, if◌then◌else◌}
+use Rattle.std.specs.Prelude.{◌≡◌, ℕ, zero, suc, ◌+◌, ◌-◌, ◌<◌, ◌≤◌, ◌⊎◌, Bool, true, false, not, List, [], ◌∷◌, length, map, flat_map, Option, Some, None, option_and_then, is_some, slice_get, slice_set, refl, if◌then◌else◌}
 use Rattle.std.proofs.Common.{sym, ◌∙◌, ap, subst, arith, inl, inr}
 use Rattle.std.proofs.Math.Bool.{true≢false}
+use Rattle.std.specs.BTreeMap.{is_at}
+use Rattle.std.specs.List.{AllByRecursion}
+use Rattle.std.specs.Map.{lookup}
+use Rattle.std.specs.Option.{option_map}
 use Rattle.std.proofs.lemmas.List.{length-append, length-map}
 use Rattle.std.proofs.lemmas.List.Filters.{length-filter_both}
 use Rattle.std.proofs.lemmas.Option.{slice_get_within}
 use Rattle.executors.specs.declared.scripts.Script.{Script}
+use Rattle.executors.specs.declared.steps.Goal.TheVariants as goal
 use Rattle.executors.specs.declared.steps.Step.{Step}
 use Rattle.executors.specs.declared.steps.Step.TheVariants.{Submit, Await, Watch, Next, Read, Sleep, Close}
 use Rattle.script_form.specs.Built.{IsBuilt}
 use Rattle.executors.specs.Scripts.{IsScript}
 use Rattle.session_law.specs.Histories.{step_at}
 use Rattle.master_run.specs.declared.replaying.Replay.{Replay}
+use Rattle.master_run.specs.declared.tellings.Telling.{Telling}
 use Rattle.master_run.specs.declared.waitings.Waiting.{Waiting}
 use Rattle.master_run.specs.Replays.{begun, client_turns, most_rounds, performed, round_of, rounds}
 use Rattle.master_run.specs.Rests.{IsAtRest}
 use Rattle.master_run.specs.Soundness.{IsSound}
-use Rattle.master_run.specs.Turns.{client_turn, first_replay, next_at, queue_turn, step_turn, waiting_of}
+use Rattle.master_run.specs.Tellings.{batch_told, step_cmp}
+use Rattle.master_run.specs.Turns.{awaited_by, client_turn, first_replay, next_at, queue_turn, step_turn, waiting_of}
 use Rattle.master_run.specs.Waitings.{is_in, next_queue}
 use Rattle.master_run.proofs.Bounds.{stood}
+use Rattle.master_run.proofs.Holding.{told_at_rest}
 use Rattle.master_run.proofs.Keeping.{kept_first, no_some, some_same}
 use Rattle.master_run.proofs.Serving.{master_sound, served_some}
 use Rattle.master_run.proofs.Submitting.{client_sound}
+use Rattle.master_run.proofs.Naming.{awaits_submit}
 use Rattle.master_run.proofs.Taken.{built_at}
 
 -- ---- sound from the first turn on
 
+zeros_within : (clients : List (List Step)) → AllByRecursion (λ number. number ≤ 0) (map (λ steps. 0) clients)
+zeros_within [] = tt
+zeros_within (steps ∷ more) = (omega arith, zeros_within more)
+
+zero_next : (clients : List (List Step)) (client : ℕ) → next_at (map (λ steps. 0) clients) client ≡ 0
+zero_next [] client = refl
+zero_next (steps ∷ more) zero = refl
+zero_next (steps ∷ more) (suc client) = zero_next more client
+
+none_before : (n m : ℕ) → m ≡ 0 → n < m → ⊥
+none_before n m none less = omega arith
+
 pub first_sound : (script : Script) → IsSound script (first_replay script)
-first_sound script = record { places = length-map script.clients (λ (steps : List Step). 0); kept = kept_first script; passed = tt; waiting = tt; apart = tt; among = tt }
+first_sound script = record {
+  places = length-map script.clients (λ (steps : List Step). 0);
+  kept = kept_first script;
+  passed = tt;
+  waiting = tt;
+  apart = tt;
+  among = tt;
+  awaited_places = length-map script.clients (λ (steps : List Step). 0);
+  awaited = zeros_within script.clients;
+  told = tt;
+  held = λ client step less own. absurd (none_before step (next_at (map (λ steps. 0) script.clients) client) (zero_next script.clients client) less);
+}
+
+pub begins_sound : (script : Script) (made : Replay) → made ≡ first_replay script → IsSound script made
+begins_sound script made e = subst (IsSound script) (sym e) (first_sound script)
 
 pub begun_sound : (script : Script) (replay : Replay) → IsSound script replay → IsSound script (begun replay)
-begun_sound script replay sound =
-    record { places = sound.places; kept = sound.kept; passed = sound.passed; waiting = sound.waiting; apart = sound.apart; among = sound.among }
+begun_sound script replay sound = record {
+  places = sound.places;
+  kept = sound.kept;
+  passed = sound.passed;
+  waiting = sound.waiting;
+  apart = sound.apart;
+  among = sound.among;
+  awaited_places = sound.awaited_places;
+  awaited = sound.awaited;
+  told = sound.told;
+  held = sound.held;
+}
 
 turns_sound : (script : Script) (client : ℕ) (all : List (List Step)) (replay : Replay) → IsScript script → IsSound script replay → IsSound script (client_turns script client all replay)
 turns_sound script client [] replay valid sound = sound
@@ -69,6 +114,16 @@ goes_on script a b c (inl e) (inr less) = inr (let same = ap (load script) e in 
 goes_on script a b c (inr less) (inl f) = inr (let same = ap (load script) f in omega arith)
 goes_on script a b c (inr less) (inr more) = inr (omega arith)
 
+await_goes : (script : Script) (replay : Replay) (client earlier : ℕ) (found : Option ℕ) → step_at script client (next_at replay.positions client) ≡ Some (Await earlier goal.Task)
+    → IsSound script replay → Goes script replay (awaited_by replay client found)
+unfolding load
+await_goes script replay client earlier None e sound = inl refl
+await_goes script replay client earlier (Some batch) e sound =
+    let at = stood script client (next_at replay.positions client) (Await earlier goal.Task) e in
+    let within = slice_get_within at.steps (next_at replay.positions client) (Await earlier goal.Task) at.of_steps in
+    let less = one_less script.clients replay.positions client at.steps sound.places at.of_client within in
+    inr (omega arith)
+
 step_goes : (script : Script) (replay : Replay) (client : ℕ) (found : Option Step) → step_at script client (next_at replay.positions client) ≡ found → IsSound script replay
     → Goes script replay (step_turn replay client found)
 unfolding load
@@ -79,7 +134,9 @@ step_goes script replay client (Some (Submit queue task timeout ack)) e sound =
     let less = one_less script.clients replay.positions client at.steps sound.places at.of_client within in
     let longer = length-append replay.waiting (waiting_of replay client queue ∷ []) in
     inr (omega arith)
-step_goes script replay client (Some (Await _ _)) e sound = inl refl
+step_goes script replay client (Some (Await earlier goal.Task)) e sound = await_goes script replay client earlier (batch_told replay.told client earlier) e sound
+step_goes script replay client (Some (Await earlier goal.Ack)) e sound = inl refl
+step_goes script replay client (Some (Await earlier goal.Watch)) e sound = inl refl
 step_goes script replay client (Some (Watch _ _ _ _)) e sound = inl refl
 step_goes script replay client (Some (Next _ _ _ _)) e sound = inl refl
 step_goes script replay client (Some (Read _ _)) e sound = inl refl
@@ -114,39 +171,75 @@ less_left script replay (inr less) acted = less
 
 -- ---- where no turn acts
 
-step_rests : (script : Script) (replay : Replay) (client : ℕ) (found : Option Step) → IsBuilt script → step_at script client (next_at replay.positions client) ≡ found
-    → (step_turn replay client found).acted ≡ false → (found ≡ None) × (step_turn replay client found ≡ replay)
-step_rests script replay client None built e still = (refl, refl)
-step_rests script replay client (Some (Submit queue task timeout ack)) built e still = absurd (true≢false still)
-step_rests script replay client (Some (Await earlier goal)) built e still = absurd (true≢false (sym (built_at script client (next_at replay.positions client) (Await earlier goal) built e)))
-step_rests script replay client (Some (Watch node pred more timeout)) built e still = absurd (true≢false (sym (built_at script client (next_at replay.positions client) (Watch node pred more timeout) built e)))
-step_rests script replay client (Some (Next watch pred more timeout)) built e still = absurd (true≢false (sym (built_at script client (next_at replay.positions client) (Next watch pred more timeout) built e)))
-step_rests script replay client (Some (Read node look)) built e still = absurd (true≢false (sym (built_at script client (next_at replay.positions client) (Read node look) built e)))
-step_rests script replay client (Some (Sleep ms)) built e still = absurd (true≢false (sym (built_at script client (next_at replay.positions client) (Sleep ms) built e)))
-step_rests script replay client (Some Close) built e still = absurd (true≢false (sym (built_at script client (next_at replay.positions client) Close built e)))
+await_still : (replay : Replay) (client : ℕ) (found : Option ℕ) → (awaited_by replay client found).acted ≡ false → awaited_by replay client found ≡ replay
+await_still replay client None still = refl
+await_still replay client (Some batch) still = absurd (true≢false still)
+
+step_still : (replay : Replay) (client : ℕ) (found : Option Step) → (step_turn replay client found).acted ≡ false → step_turn replay client found ≡ replay
+step_still replay client None still = refl
+step_still replay client (Some (Submit queue task timeout ack)) still = absurd (true≢false still)
+step_still replay client (Some (Await earlier goal.Task)) still = await_still replay client (batch_told replay.told client earlier) still
+step_still replay client (Some (Await earlier goal.Ack)) still = refl
+step_still replay client (Some (Await earlier goal.Watch)) still = refl
+step_still replay client (Some (Watch _ _ _ _)) still = refl
+step_still replay client (Some (Next _ _ _ _)) still = refl
+step_still replay client (Some (Read _ _)) still = refl
+step_still replay client (Some (Sleep _)) still = refl
+step_still replay client (Some Close) still = refl
 
 -- a client has no step left
 abbrev HasEnded : Script → Replay → ℕ → Type 0
 HasEnded script replay client = step_at script client (next_at replay.positions client) ≡ None
 
+-- a client's turn doesn't act
+abbrev IsStuck : Script → Replay → ℕ → Type 0
+IsStuck script replay client = (client_turn script client replay).acted ≡ false
+
 record AreStill (script : Script) (client : ℕ) (all : List (List Step)) (replay : Replay) : Type 0 where
   same : client_turns script client all replay ≡ replay
-  ended : (i : ℕ) → i < length all → HasEnded script replay (client + i)
+  stuck : (i : ℕ) → i < length all → IsStuck script replay (client + i)
 
-ended_on : (script : Script) (replay : Replay) (client count : ℕ) → HasEnded script replay client → ((i : ℕ) → i < count → HasEnded script replay (client + 1 + i))
-    → (i : ℕ) → i < count + 1 → HasEnded script replay (client + i)
-ended_on script replay client count first more zero less = subst (HasEnded script replay) (omega arith) first
-ended_on script replay client count first more (suc i) less = subst (HasEnded script replay) (omega arith) (more i (omega arith))
+stuck_on : (script : Script) (replay : Replay) (client count : ℕ) → IsStuck script replay client → ((i : ℕ) → i < count → IsStuck script replay (client + 1 + i))
+    → (i : ℕ) → i < count + 1 → IsStuck script replay (client + i)
+stuck_on script replay client count first more zero less = subst (IsStuck script replay) (omega arith) first
+stuck_on script replay client count first more (suc i) less = subst (IsStuck script replay) (omega arith) (more i (omega arith))
 
-turns_rest : (script : Script) (client : ℕ) (all : List (List Step)) (replay : Replay) → IsBuilt script → (client_turns script client all replay).acted ≡ false → AreStill script client all replay
-turns_rest script client [] replay built still = record { same = refl; ended = λ i less. absurd (omega arith) }
-turns_rest script client (steps ∷ more) replay built still =
-    let rest = turns_rest script (client + 1) more (client_turn script client replay) built still in
-    let one = step_rests script replay client (step_at script client (next_at replay.positions client)) built refl (ap (λ (r : Replay). r.acted) (sym rest.same) ∙ still) in
+turns_rest : (script : Script) (client : ℕ) (all : List (List Step)) (replay : Replay) → (client_turns script client all replay).acted ≡ false → AreStill script client all replay
+turns_rest script client [] replay still = record { same = refl; stuck = λ i less. absurd (omega arith) }
+turns_rest script client (steps ∷ more) replay still =
+    let rest = turns_rest script (client + 1) more (client_turn script client replay) still in
+    let stuck : IsStuck script replay client = ap (λ (r : Replay). r.acted) (sym rest.same) ∙ still in
+    let one = step_still replay client (step_at script client (next_at replay.positions client)) stuck in
     record {
-      same = rest.same ∙ one.1;
-      ended = λ i less. ended_on script replay client (length more) one.0 (subst (λ (r : Replay). (i : ℕ) → i < length more → HasEnded script r (client + 1 + i)) one.1 rest.ended) i (omega arith);
+      same = rest.same ∙ one;
+      stuck = λ i less. stuck_on script replay client (length more) stuck (subst (λ (r : Replay). (i : ℕ) → i < length more → IsStuck script r (client + 1 + i)) one rest.stuck) i (omega arith);
     }
+
+-- ---- what an await names was submitted, so that where nothing waits it was told
+
+told_acts : (replay : Replay) (client : ℕ) (found : Option Telling) → is_some found ≡ true → (awaited_by replay client (option_map (λ telling. telling.batch) found)).acted ≡ true
+told_acts replay client None h = absurd (true≢false (sym h))
+told_acts replay client (Some telling) h = refl
+
+await_ends : (script : Script) (replay : Replay) (client earlier : ℕ) → IsScript script → IsSound script replay → replay.waiting ≡ []
+    → step_at script client (next_at replay.positions client) ≡ Some (Await earlier goal.Task) → (awaited_by replay client (batch_told replay.told client earlier)).acted ≡ true
+await_ends script replay client earlier valid sound empty e =
+    let named = awaits_submit script client (next_at replay.positions client) earlier valid e in
+    let told = told_at_rest script replay.positions replay.waiting replay.told client earlier empty sound.held named.0 named.1 in
+    told_acts replay client (lookup (is_at (step_cmp (client, earlier))) replay.told) told
+
+step_ends : (script : Script) (replay : Replay) (client : ℕ) (found : Option Step) → IsScript script → IsBuilt script → IsSound script replay → replay.waiting ≡ []
+    → step_at script client (next_at replay.positions client) ≡ found → (step_turn replay client found).acted ≡ false → found ≡ None
+step_ends script replay client None valid built sound empty e still = refl
+step_ends script replay client (Some (Submit queue task timeout ack)) valid built sound empty e still = absurd (true≢false still)
+step_ends script replay client (Some (Await earlier goal.Task)) valid built sound empty e still = absurd (true≢false (sym (await_ends script replay client earlier valid sound empty e) ∙ still))
+step_ends script replay client (Some (Await earlier goal.Ack)) valid built sound empty e still = absurd (true≢false (sym (built_at script client (next_at replay.positions client) (Await earlier goal.Ack) built e)))
+step_ends script replay client (Some (Await earlier goal.Watch)) valid built sound empty e still = absurd (true≢false (sym (built_at script client (next_at replay.positions client) (Await earlier goal.Watch) built e)))
+step_ends script replay client (Some (Watch node pred more timeout)) valid built sound empty e still = absurd (true≢false (sym (built_at script client (next_at replay.positions client) (Watch node pred more timeout) built e)))
+step_ends script replay client (Some (Next watch pred more timeout)) valid built sound empty e still = absurd (true≢false (sym (built_at script client (next_at replay.positions client) (Next watch pred more timeout) built e)))
+step_ends script replay client (Some (Read node look)) valid built sound empty e still = absurd (true≢false (sym (built_at script client (next_at replay.positions client) (Read node look) built e)))
+step_ends script replay client (Some (Sleep ms)) valid built sound empty e still = absurd (true≢false (sym (built_at script client (next_at replay.positions client) (Sleep ms) built e)))
+step_ends script replay client (Some Close) valid built sound empty e still = absurd (true≢false (sym (built_at script client (next_at replay.positions client) Close built e)))
 
 none_waits : (script : Script) (all : List Waiting) → next_queue script.queues all ≡ None → all ≡ []
 none_waits script [] e = refl
@@ -160,19 +253,24 @@ queue_rests : (script : Script) (replay : Replay) (found : Option ℕ) → (queu
 queue_rests script replay None still = record { none = refl; same = refl }
 queue_rests script replay (Some number) still = absurd (true≢false still)
 
-all_ended : (script : Script) (replay : Replay) → ((i : ℕ) → i < length script.clients → HasEnded script replay (0 + i)) → (client : ℕ) (found : Option (List Step))
-    → slice_get script.clients client ≡ found → HasEnded script replay client
-all_ended script replay ended client None e = ap (option_and_then (λ steps. slice_get steps (next_at replay.positions client))) e
-all_ended script replay ended client (Some steps) e = subst (HasEnded script replay) (omega arith) (ended client (slice_get_within script.clients client steps e))
+client_ends : (script : Script) (replay : Replay) → IsScript script → IsBuilt script → IsSound script replay → replay.waiting ≡ []
+    → ((i : ℕ) → i < length script.clients → IsStuck script replay (0 + i)) → (client : ℕ) (found : Option (List Step)) → slice_get script.clients client ≡ found → HasEnded script replay client
+client_ends script replay valid built sound empty stuck client None e = ap (option_and_then (λ steps. slice_get steps (next_at replay.positions client))) e
+client_ends script replay valid built sound empty stuck client (Some steps) e =
+    let still = subst (IsStuck script replay) (omega arith) (stuck client (slice_get_within script.clients client steps e)) in
+    step_ends script replay client (step_at script client (next_at replay.positions client)) valid built sound empty refl still
 
-round_rests : (script : Script) (replay : Replay) → IsBuilt script → (round_of script replay).acted ≡ false → IsAtRest script (round_of script replay)
-round_rests script replay built still =
+round_rests : (script : Script) (replay : Replay) → IsScript script → IsBuilt script → IsSound script replay → (round_of script replay).acted ≡ false → IsAtRest script (round_of script replay)
+round_rests script replay valid built sound still =
     let turned = client_turns script 0 script.clients (begun replay) in
     let last = queue_rests script turned (next_queue script.queues turned.waiting) still in
-    let turns = turns_rest script 0 script.clients (begun replay) built (ap (λ (r : Replay). r.acted) (sym last.same) ∙ still) in
+    let turns = turns_rest script 0 script.clients (begun replay) (ap (λ (r : Replay). r.acted) (sym last.same) ∙ still) in
+    let empty = none_waits script turned.waiting last.none in
+    let empty_before : (begun replay).waiting ≡ [] = ap (λ (r : Replay). r.waiting) (sym turns.same) ∙ empty in
     subst (IsAtRest script) (sym last.same) (record {
-      empty = none_waits script turned.waiting last.none;
-      ended = subst (λ (r : Replay). (client : ℕ) → HasEnded script r client) (sym turns.same) (λ client. all_ended script (begun replay) turns.ended client (slice_get script.clients client) refl);
+      empty = empty;
+      ended = subst (λ (r : Replay). (client : ℕ) → HasEnded script r client) (sym turns.same)
+          (λ client. client_ends script (begun replay) valid built (begun_sound script replay sound) empty_before turns.stuck client (slice_get script.clients client) refl);
     })
 
 -- ---- the rounds
@@ -180,7 +278,7 @@ round_rests script replay built still =
 rests_if : (script : Script) (n : ℕ) (replay : Replay) (b : Bool) → (round_of script replay).acted ≡ b → IsScript script → IsBuilt script → IsSound script replay → load script replay < n + 1
     → (load script (round_of script replay) < n → IsAtRest script (rounds script n (round_of script replay))) → IsAtRest script (if b then rounds script n (round_of script replay) else round_of script replay)
 rests_if script n replay true acted valid built sound less more = more (let fewer = less_left script replay (round_goes script replay valid sound) acted in omega arith)
-rests_if script n replay false acted valid built sound less more = round_rests script replay built acted
+rests_if script n replay false acted valid built sound less more = round_rests script replay valid built sound acted
 
 rests_in : (script : Script) (n : ℕ) (replay : Replay) → IsScript script → IsBuilt script → IsSound script replay → load script replay < n → IsAtRest script (rounds script n replay)
 unfolding rounds

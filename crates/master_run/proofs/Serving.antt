@@ -23,6 +23,8 @@ use Rattle.master_run.specs.Turns.{master_turn, queue_turn, served}
 use Rattle.master_run.specs.Waitings.{entries_of, is_in, left_by, next_queue, rank_at, sooner, soonest, taken_from}
 use Rattle.master_run.proofs.Alls.{all_append, all_both, all_by, all_filter, all_pass, kept_between, kept_more, kept_some}
 use Rattle.master_run.proofs.Bounds.{false_from}
+use Rattle.master_run.proofs.Ending.{ends_count}
+use Rattle.master_run.proofs.Holding.{all_run, held_served, run_longer}
 use Rattle.master_run.proofs.Keeping.{apart_append, both_first, both_second, kept_join, names_apart, no_some, placed_push, some_same}
 
 -- ---- the queue that is served
@@ -211,7 +213,7 @@ waits_longer script positions batches more w less h =
 served_from : Script → Replay → ℕ → Option QueueSpec → Replay
 served_from script replay number found =
     let book = added_to script replay.book found (entries_of (taken_from number replay.waiting)) replay.clock in
-    record replay { waiting = left_by number replay.waiting; book = book; told = told_all replay.told (taken_from number replay.waiting) book.ends; acted = true }
+    record replay { waiting = left_by number replay.waiting; book = book; told = told_all replay.told (length book.batches) (taken_from number replay.waiting) book.ends; acted = true }
 
 queue_sound : (script : Script) (replay : Replay) (number : ℕ) (queue : QueueSpec) → IsScript script → IsSound script replay → slice_get script.queues number ≡ Some queue
     → 0 < length (taken_from number replay.waiting) → IsSound script (served_from script replay number (Some queue))
@@ -226,6 +228,10 @@ queue_sound script replay number queue valid sound e some =
     let pushed = placed_push replay.book.batches batch in
     let longer = length-append replay.book.batches (batch ∷ []) in
     let are_taken = taken_all script replay.positions batches number replay.waiting sound.waiting in
+    let own = all_by (IsTaken script replay.positions batches number) (λ w. IsOwn script (placed_at script.queues w)) (λ w h. waiting_own script replay.positions batches w h.0) taken are_taken in
+    let ends = ends_count script replay.book.world queue (entries_of taken) replay.clock (placed_taken script replay.positions batches number queue (IsOwn script) taken e are_taken own) in
+    let entries = length-map taken (λ (w : Waiting). w.entry) in
+    let more = length (replay.book.batches ++ batch ∷ []) in
     let passed = all_by (IsTaken script replay.positions batches number) (λ w. IsPassed replay.positions (placed_at script.queues w)) (λ w h. h.0.passed) taken are_taken in
     let elsewhere : Waiting → Bool = λ w. not (is_in number w) in
     let from : List Placed → Waiting → Type 0 = λ all w. AllByRecursion (λ before. IsApart before (placed_at script.queues w)) all in
@@ -245,6 +251,10 @@ queue_sound script replay number queue valid sound e some =
           (all_both (from placed) from_taken left (all_filter (from placed) elsewhere replay.waiting sound.apart)
           (crossed script replay.positions batches number replay.waiting valid sound.waiting sound.among)));
       among = among_filter script.queues elsewhere replay.waiting sound.among;
+      awaited_places = sound.awaited_places;
+      awaited = all_by (λ (n : ℕ). n ≤ batches) (λ (n : ℕ). n ≤ more) (λ n h. omega arith) replay.awaited sound.awaited;
+      told = all_run replay.told more more taken made.ends (run_longer batches more replay.told (omega arith) sound.told) (record { least = omega arith; most = omega arith });
+      held = held_served script replay.positions replay.waiting replay.told number more made.ends (omega arith) sound.held;
     }
 
 pub served_sound : (script : Script) (replay : Replay) (number : ℕ) → IsScript script → IsSound script replay → next_queue script.queues replay.waiting ≡ Some number

@@ -1,5 +1,5 @@
 -- Where one client submits, each of its submits is a batch of its own.
-use Rattle.std.specs.Prelude.{◌≡◌, ℕ, zero, suc, ◌+◌, ◌≤◌, Bool, true, false, not, cond, ◌&&◌, ◌==◌, List, [], ◌∷◌, ◌++◌, length, flat_map, count_by, Option, Some, None, option_and_then, slice_get, refl, if◌then◌else◌}
+use Rattle.std.specs.Prelude.{◌≡◌, ℕ, zero, suc, ◌+◌, ◌≤◌, Bool, true, false, not, cond, ◌&&◌, ◌==◌, List, [], ◌∷◌, ◌++◌, length, map, drop, flat_map, count_by, Option, Some, None, option_and_then, slice_get, slice_set, refl, if◌then◌else◌}
 use Rattle.std.proofs.Common.{sym, ◌∙◌, ap, subst, arith}
 use Rattle.std.proofs.Math.Bool.{true≢false}
 use Rattle.std.proofs.lemmas.List.{length-append}
@@ -9,10 +9,11 @@ use Rattle.std.specs.Cmp.{unsigned_Decides}
 use Rattle.std.specs.List.{AllByRecursion, list_all}
 use Rattle.executors.specs.declared.queues.QueueSpec.{QueueSpec}
 use Rattle.executors.specs.declared.scripts.Script.{Script}
+use Rattle.executors.specs.declared.steps.Goal.TheVariants as goal
 use Rattle.executors.specs.declared.steps.Step.{Step}
 use Rattle.executors.specs.declared.steps.Step.TheVariants.{Submit, Await, Watch, Next, Read, Sleep, Close}
-use Rattle.script_form.specs.Built.{IsBuilt, is_built_step}
-use Rattle.executors.specs.Scripts.{IsScript, all_steps, is_submit}
+use Rattle.script_form.specs.Built.{IsBuilt}
+use Rattle.executors.specs.Scripts.{IsScript, all_steps, is_submit, submits}
 use Rattle.session_law.specs.declared.batches.Batch.{Batch}
 use Rattle.session_law.specs.Histories.{step_at}
 use Rattle.master_run.specs.declared.replaying.Replay.{Replay}
@@ -21,20 +22,55 @@ use Rattle.master_run.specs.Books.{Chronicle, added_to, ran_at}
 use Rattle.master_run.specs.Replays.{begun, client_turns, most_rounds, performed, round_of, rounds}
 use Rattle.master_run.specs.Singles.{AreSingles, IsSingle}
 use Rattle.master_run.specs.Soundness.{IsSound}
-use Rattle.master_run.specs.Turns.{client_turn, first_replay, master_turn, next_at, served, step_turn, submitted_to, waiting_of}
+use Rattle.master_run.specs.Tellings.{batch_told}
+use Rattle.master_run.specs.Turns.{awaited_by, client_turn, first_replay, master_turn, next_at, served, step_turn, submitted_to, waiting_of}
 use Rattle.master_run.specs.Waitings.{entries_of, is_in, left_by, taken_from}
 use Rattle.master_run.proofs.Alls.{all_push}
 use Rattle.master_run.proofs.Bounds.{stood}
-use Rattle.master_run.proofs.Keeping.{both_first, both_second}
-use Rattle.master_run.proofs.Resting.{all_left, begun_sound, comes_to_rest, first_sound, one_less, round_sound, steps_left}
-use Rattle.master_run.proofs.Taken.{queued, some_queue, steps_built}
+use Rattle.master_run.proofs.Keeping.{no_some, some_same}
+use Rattle.master_run.proofs.Resting.{begun_sound, comes_to_rest, first_sound, round_sound}
+use Rattle.master_run.proofs.Taken.{queued, some_queue}
 
--- between rounds: nothing waits, and each step that was performed has its batch
+-- the submits that weren't performed yet
+unfoldable submits_left : List (List Step) → List ℕ → ℕ
+submits_left [] positions = 0
+submits_left (steps ∷ more) [] = 0
+submits_left (steps ∷ more) (position ∷ positions) = count_by is_submit (drop position steps) + submits_left more positions
+
+-- between rounds: nothing waits, and each submit that was performed has its batch
 record IsAlone (script : Script) (replay : Replay) : Type 0 where
   empty : replay.waiting ≡ []
   clock : replay.clock ≡ 0
   each : AllByRecursion IsSingle replay.book.batches
-  count : length replay.book.batches + steps_left script.clients replay.positions ≡ length (all_steps script)
+  count : length replay.book.batches + submits_left script.clients replay.positions ≡ submits script
+
+-- ---- one step
+
+counted : Bool → ℕ
+counted b = cond b 1 0
+
+first_counted : (step : Step) (steps : List Step) → count_by is_submit (step ∷ steps) ≡ counted (is_submit step) + count_by is_submit steps
+unfolding counted
+first_counted step steps = sum_by-cons (λ (x : Step). cond (is_submit x) 1 0) step steps
+
+drop_counted : (steps : List Step) (number : ℕ) (step : Step) → slice_get steps number ≡ Some step
+    → count_by is_submit (drop number steps) ≡ counted (is_submit step) + count_by is_submit (drop (suc number) steps)
+drop_counted [] number step e = absurd (no_some step e)
+drop_counted (first ∷ steps) zero step e = first_counted first steps ∙ ap (λ (s : Step). counted (is_submit s) + count_by is_submit steps) (some_same first step e)
+drop_counted (first ∷ steps) (suc number) step e = drop_counted steps number step e
+
+stepped_left : (clients : List (List Step)) (positions : List ℕ) (client : ℕ) (steps : List Step) (step : Step) → length positions ≡ length clients → slice_get clients client ≡ Some steps
+    → slice_get steps (next_at positions client) ≡ Some step
+    → submits_left clients positions ≡ counted (is_submit step) + submits_left clients (slice_set positions client (next_at positions client + 1))
+unfolding submits_left
+stepped_left [] positions client steps step places e f = absurd (no_some steps e)
+stepped_left (first ∷ more) [] client steps step places e f = absurd (omega arith)
+stepped_left (first ∷ more) (p ∷ positions) zero steps step places e f =
+    let one = drop_counted first p step (ap (λ (l : List Step). slice_get l p) (some_same first steps e) ∙ f) in
+    let next : p + 1 ≡ suc p = omega arith in
+    let same = ap (λ (n : ℕ). count_by is_submit (drop n first)) next in
+    omega arith
+stepped_left (first ∷ more) (p ∷ positions) (suc client) steps step places e f = let rest = stepped_left more positions client steps step (omega arith) e f in omega arith
 
 -- ---- one round
 
@@ -87,18 +123,28 @@ took_none script replay none = subst (λ (all : List Waiting). master_turn scrip
 still_alone : (script : Script) (replay : Replay) → IsAlone script replay → IsAlone script (master_turn script replay)
 still_alone script replay alone = subst (IsAlone script) (sym (took_none script replay alone.empty)) alone
 
+await_alone : (script : Script) (replay : Replay) (earlier : ℕ) (found : Option ℕ) → step_at script 0 (next_at replay.positions 0) ≡ Some (Await earlier goal.Task) → IsSound script replay
+    → IsAlone script replay → IsAlone script (master_turn script (awaited_by replay 0 found))
+unfolding counted
+await_alone script replay earlier None e sound alone = still_alone script replay alone
+await_alone script replay earlier (Some batch) e sound alone =
+    let at = stood script 0 (next_at replay.positions 0) (Await earlier goal.Task) e in
+    let same = stepped_left script.clients replay.positions 0 at.steps (Await earlier goal.Task) sound.places at.of_client at.of_steps in
+    let count = alone.count in
+    still_alone script (awaited_by replay 0 (Some batch)) (record { empty = alone.empty; clock = alone.clock; each = alone.each; count = omega arith })
+
 step_alone : (script : Script) (replay : Replay) (found : Option Step) → IsScript script → step_at script 0 (next_at replay.positions 0) ≡ found → IsSound script replay
     → IsAlone script replay → IsAlone script (master_turn script (step_turn replay 0 found))
+unfolding counted
 step_alone script replay None valid e sound alone = still_alone script replay alone
 step_alone script replay (Some (Submit number task timeout ack)) valid e sound alone =
     let w = waiting_of replay 0 number in
     let at = stood script 0 (next_at replay.positions 0) (Submit number task timeout ack) e in
-    let within = slice_get_within at.steps (next_at replay.positions 0) (Submit number task timeout ack) at.of_steps in
-    let less = one_less script.clients replay.positions 0 at.steps sound.places at.of_client within in
+    let less = stepped_left script.clients replay.positions 0 at.steps (Submit number task timeout ack) sound.places at.of_client at.of_steps in
     let queue = some_queue script task (slice_get script.queues number) (queued script 0 (next_at replay.positions 0) (Submit number task timeout ack) valid e) in
     let took = took_one script (submitted_to replay 0 number) w queue.0 queue.1 (one_waits script replay 0 number alone.empty) in
     let more = ap (λ (l : List Batch). length l) took.batches ∙ length-append replay.book.batches (took.batch ∷ []) in
-    let stands = ap (steps_left script.clients) took.positions in
+    let stands = ap (submits_left script.clients) took.positions in
     let count = alone.count in
     record {
       empty = took.empty;
@@ -107,7 +153,9 @@ step_alone script replay (Some (Submit number task timeout ack)) valid e sound a
           (all_push IsSingle replay.book.batches took.batch alone.each (record { one = took.single; at_first = took.at_clock ∙ alone.clock }));
       count = omega arith;
     }
-step_alone script replay (Some (Await _ _)) valid e sound alone = still_alone script replay alone
+step_alone script replay (Some (Await earlier goal.Task)) valid e sound alone = await_alone script replay earlier (batch_told replay.told 0 earlier) e sound alone
+step_alone script replay (Some (Await earlier goal.Ack)) valid e sound alone = still_alone script replay alone
+step_alone script replay (Some (Await earlier goal.Watch)) valid e sound alone = still_alone script replay alone
 step_alone script replay (Some (Watch _ _ _ _)) valid e sound alone = still_alone script replay alone
 step_alone script replay (Some (Next _ _ _ _)) valid e sound alone = still_alone script replay alone
 step_alone script replay (Some (Read _ _)) valid e sound alone = still_alone script replay alone
@@ -141,58 +189,41 @@ rounds_alone script (suc n) replay valid few sound alone =
     either_round script (round_of script replay).acted (rounds script n (round_of script replay)) (round_of script replay)
     (rounds_alone script n (round_of script replay) valid few (round_sound script replay valid sound) next) next
 
--- ---- every step is a submit, and was performed
+-- ---- every submit was performed
 
-all_of_both : {X : Type 0} (p : X → Bool) (xs ys : List X) → list_all p xs ≡ true → list_all p ys ≡ true → list_all p (xs ++ ys) ≡ true
-all_of_both p [] ys h k = k
-all_of_both p (x ∷ xs) ys h k = λ i. both_first (p x) (list_all p xs) h i && all_of_both p xs ys (both_second (p x) (list_all p xs) h) k i
-
-all_flat : {X : Type 0} (p : X → Bool) (lists : List (List X)) → list_all (list_all p) lists ≡ true → list_all p (flat_map (λ xs. xs) lists) ≡ true
-all_flat p [] h = refl
-all_flat p (xs ∷ lists) h = all_of_both p xs (flat_map (λ xs. xs) lists) (both_first _ _ h) (all_flat p lists (both_second _ _ h))
-
-built_submit : (script : Script) (step : Step) → is_built_step script step ≡ true → is_submit step ≡ true
-built_submit script (Submit queue task timeout ack) h = refl
-built_submit script (Await _ _) h = absurd (true≢false (sym h))
-built_submit script (Watch _ _ _ _) h = absurd (true≢false (sym h))
-built_submit script (Next _ _ _ _) h = absurd (true≢false (sym h))
-built_submit script (Read _ _) h = absurd (true≢false (sym h))
-built_submit script (Sleep _) h = absurd (true≢false (sym h))
-built_submit script Close h = absurd (true≢false (sym h))
-
-counts_one : (b : Bool) → b ≡ true → cond {A = ℕ} b 1 0 ≡ 1
-counts_one true e = refl
-counts_one false e = absurd (true≢false (sym e))
-
-all_submit : (script : Script) (steps : List Step) → list_all (is_built_step script) steps ≡ true → count_by is_submit steps ≡ length steps
-all_submit script [] h = refl
-all_submit script (step ∷ steps) h =
-    let one = counts_one (is_submit step) (built_submit script step (both_first (is_built_step script step) (list_all (is_built_step script) steps) h)) in
-    let whole = sum_by-cons (λ (x : Step). cond (is_submit x) 1 0) step steps in
-    let rest = all_submit script steps (both_second (is_built_step script step) (list_all (is_built_step script) steps) h) in
-    omega arith
-
-none_past : {X : Type 0} (xs : List X) (n : ℕ) → slice_get xs n ≡ None → length xs ≤ n
-none_past [] n e = omega arith
+none_past : {X : Type 0} (xs : List X) (n : ℕ) → slice_get xs n ≡ None → drop n xs ≡ []
+none_past [] zero e = refl
+none_past [] (suc n) e = refl
 none_past (x ∷ xs) zero e = cc
-none_past (x ∷ xs) (suc n) e = let rest = none_past xs n e in omega arith
+none_past (x ∷ xs) (suc n) e = none_past xs n e
 
-none_left : (script : Script) (all : List (List Step)) (positions : List ℕ) → script.clients ≡ all → length all ≤ 1 → step_at script 0 (next_at positions 0) ≡ None → steps_left all positions ≡ 0
-unfolding steps_left
+none_left : (script : Script) (all : List (List Step)) (positions : List ℕ) → script.clients ≡ all → length all ≤ 1 → step_at script 0 (next_at positions 0) ≡ None → submits_left all positions ≡ 0
+unfolding submits_left
 none_left script [] positions e few ended = refl
 none_left script (steps ∷ more) [] e few ended = refl
 none_left script (steps ∷ []) (p ∷ positions) e few ended =
-    let past = none_past steps p (sym (ap (λ (clients : List (List Step)). option_and_then (λ steps. slice_get steps p) (slice_get clients 0)) e) ∙ ended) in omega arith
+    let past = none_past steps p (sym (ap (λ (clients : List (List Step)). option_and_then (λ steps. slice_get steps p) (slice_get clients 0)) e) ∙ ended) in
+    let none = ap (λ (left : List Step). count_by is_submit left) past in
+    omega arith
 none_left script (steps ∷ second ∷ more) (p ∷ positions) e few ended = absurd (omega arith)
 
+both_counted : (steps more : List Step) → count_by is_submit (steps ++ more) ≡ count_by is_submit steps + count_by is_submit more
+both_counted [] more = let none : count_by is_submit [] ≡ 0 = refl in omega arith
+both_counted (step ∷ steps) more =
+    let rest = both_counted steps more in let one = first_counted step steps in let whole = first_counted step (steps ++ more) in omega arith
+
+all_submits : (clients : List (List Step)) → submits_left clients (map (λ steps. 0) clients) ≡ count_by is_submit (flat_map (λ steps. steps) clients)
+unfolding submits_left
+all_submits [] = refl
+all_submits (steps ∷ more) = let rest = all_submits more in let both = both_counted steps (flat_map (λ (steps : List Step). steps) more) in omega arith
+
 first_alone : (script : Script) → IsAlone script (first_replay script)
-first_alone script = record { empty = refl; clock = refl; each = tt; count = let left = all_left script.clients in omega arith }
+first_alone script = record { empty = refl; clock = refl; each = tt; count = let left = all_submits script.clients in omega arith }
 
 pub are_singles : (script : Script) → IsScript script → IsBuilt script → length script.clients ≤ 1 → AreSingles script (performed script).book.batches
 are_singles script valid built few =
     let alone = rounds_alone script (most_rounds script) (first_replay script) valid few (first_sound script) (first_alone script) in
     let rest = comes_to_rest script valid built in
     let none = none_left script script.clients (performed script).positions refl few (rest.ended 0) in
-    let all = all_submit script (all_steps script) (all_flat (is_built_step script) script.clients (steps_built script built)) in
     let count = alone.count in
     record { each = alone.each; count = omega arith }

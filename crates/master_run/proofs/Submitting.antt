@@ -1,5 +1,5 @@
 -- A client's turn leaves a replay sound: its step stands after all that it submitted before.
-use Rattle.std.specs.Prelude.{◌≡◌, ℕ, zero, suc, ◌+◌, ◌<◌, ◌≤◌, true, ◌&&◌, ◌==◌, List, [], ◌∷◌, ◌++◌, length, Option, Some, None, slice_get, slice_set, refl}
+use Rattle.std.specs.Prelude.{◌≡◌, ℕ, zero, suc, ◌+◌, ◌<◌, ◌≤◌, true, false, max, ◌&&◌, ◌==◌, List, [], ◌∷◌, ◌++◌, length, Option, Some, None, slice_get, slice_set, refl}
 use Rattle.std.proofs.Common.{sym, ◌∙◌, ap, subst, arith}
 use Rattle.std.proofs.lemmas.List.{get_or-set_same, length-set}
 use Rattle.std.proofs.lemmas.Option.{slice_get_within}
@@ -7,16 +7,19 @@ use Rattle.std.specs.Cmp.{unsigned_Decides}
 use Rattle.std.specs.List.{AllByRecursion}
 use Rattle.executors.specs.declared.queues.QueueSpec.{QueueSpec}
 use Rattle.executors.specs.declared.scripts.Script.{Script}
+use Rattle.executors.specs.declared.steps.Goal.TheVariants as goal
 use Rattle.executors.specs.declared.steps.Step.{Step}
 use Rattle.executors.specs.declared.steps.Step.TheVariants.{Submit, Await, Watch, Next, Read, Sleep, Close}
 use Rattle.executors.specs.Scripts.{IsScript}
 use Rattle.session_law.specs.Histories.{IsApart, Placed, placed_of, step_at}
 use Rattle.master_run.specs.declared.replaying.Replay.{Replay}
 use Rattle.master_run.specs.declared.waitings.Waiting.{Waiting}
-use Rattle.master_run.specs.Soundness.{AreApartAmong, IsPassed, IsSound, IsWaiting, is_submit_to, placed_at}
-use Rattle.master_run.specs.Turns.{client_turn, next_at, step_turn, submitted_to, waiting_of}
+use Rattle.master_run.specs.Soundness.{AreApartAmong, IsPassed, IsSound, IsWaiting, is_submit_at, is_submit_to, placed_at}
+use Rattle.master_run.specs.Tellings.{batch_told}
+use Rattle.master_run.specs.Turns.{awaited_by, client_turn, next_at, seen_at, step_turn, submitted_to, waiting_of}
 use Rattle.master_run.proofs.Alls.{all_by, all_push}
 use Rattle.master_run.proofs.Bounds.{false_from, steps_few, stood}
+use Rattle.master_run.proofs.Holding.{awaited_set, held_awaited, held_submitted, seen_within, told_run}
 use Rattle.master_run.proofs.Keeping.{both_first, both_second}
 use Rattle.master_run.proofs.Taken.{queued, some_queue}
 
@@ -77,12 +80,42 @@ submit_sound script replay client number queue e own within sound =
       waiting = all_push (IsWaiting script positions (length replay.book.batches)) replay.waiting w
           (all_by (IsWaiting script replay.positions (length replay.book.batches)) (IsWaiting script positions (length replay.book.batches))
           (waits_on script replay.positions client (length replay.book.batches)) replay.waiting sound.waiting)
-          (record { queue = queue; of_queue = e; own = own; passed = omega (arith, mine); seen = omega arith });
+          (record { queue = queue; of_queue = e; own = own; passed = omega (arith, mine); seen = seen_within (length replay.book.batches) replay.awaited client sound.awaited });
       apart = all_push (λ w. AllByRecursion (λ before. IsApart before (placed_at script.queues w)) (placed_of replay.book.batches)) replay.waiting w sound.apart
           (all_by (IsPassed replay.positions) (λ before. IsApart before placed) (λ before h. apart_next replay.positions before placed h refl) (placed_of replay.book.batches) sound.passed);
       among = among_push script.queues replay.waiting w sound.among
           (all_by (IsWaiting script replay.positions (length replay.book.batches)) (λ v. IsApart (placed_at script.queues v) placed)
           (λ v h. apart_next replay.positions (placed_at script.queues v) placed h.passed refl) replay.waiting sound.waiting);
+      awaited_places = sound.awaited_places;
+      awaited = sound.awaited;
+      told = sound.told;
+      held = held_submitted script replay.positions client replay.waiting replay.told w refl refl sound.held;
+    }
+
+-- ---- an await
+
+max_within : (a b n : ℕ) → a ≤ n → b ≤ n → max a b ≤ n
+max_within a b n h k = omega arith
+
+await_sound : (script : Script) (replay : Replay) (client earlier : ℕ) (found : Option ℕ) → batch_told replay.told client earlier ≡ found
+    → is_submit_at (step_at script client (next_at replay.positions client)) ≡ false → IsSound script replay → IsSound script (awaited_by replay client found)
+await_sound script replay client earlier None e none sound = sound
+await_sound script replay client earlier (Some batch) e none sound =
+    let batches = length replay.book.batches in
+    let greatest = max (seen_at replay.awaited client) batch in
+    let positions = slice_set replay.positions client (next_at replay.positions client + 1) in
+    let run = told_run batches replay.told client earlier batch sound.told e in
+    record {
+      places = length-set replay.positions client (next_at replay.positions client + 1) ∙ sound.places;
+      kept = sound.kept;
+      passed = all_by (IsPassed replay.positions) (IsPassed positions) (still_passed replay.positions client) (placed_of replay.book.batches) sound.passed;
+      waiting = all_by (IsWaiting script replay.positions batches) (IsWaiting script positions batches) (waits_on script replay.positions client batches) replay.waiting sound.waiting;
+      apart = sound.apart;
+      among = sound.among;
+      awaited_places = length-set replay.awaited client greatest ∙ sound.awaited_places;
+      awaited = awaited_set batches replay.awaited client greatest sound.awaited (max_within (seen_at replay.awaited client) batch batches (seen_within batches replay.awaited client sound.awaited) run.most);
+      told = sound.told;
+      held = held_awaited script replay.positions client replay.waiting replay.told none sound.held;
     }
 
 -- ---- the turn
@@ -94,6 +127,13 @@ same_number n = (unsigned_Decides n n).1 refl
 pub client_within : (script : Script) (replay : Replay) (client number : ℕ) (step : Step) → length replay.positions ≡ length script.clients → step_at script client number ≡ Some step
     → client < length replay.positions
 client_within script replay client number step places e =
+    let at = stood script client number step e in
+    let within = slice_get_within script.clients client at.steps at.of_client in
+    omega arith
+
+pub place_within : (script : Script) (replay : Replay) (client number : ℕ) (step : Step) → length replay.awaited ≡ length script.clients → step_at script client number ≡ Some step
+    → client < length replay.awaited
+place_within script replay client number step places e =
     let at = stood script client number step e in
     let within = slice_get_within script.clients client at.steps at.of_client in
     omega arith
@@ -112,7 +152,10 @@ step_sound script replay client (Some (Submit number task timeout ack)) valid e 
     let queue = some_queue script task (slice_get script.queues number) (queued script client (next_at replay.positions client) (Submit number task timeout ack) valid e) in
     submit_sound script replay client number queue.0 queue.1 (ap (is_submit_to number) e ∙ same_number number)
     (client_within script replay client (next_at replay.positions client) (Submit number task timeout ack) sound.places e) sound
-step_sound script replay client (Some (Await _ _)) valid e sound = sound
+step_sound script replay client (Some (Await earlier goal.Task)) valid e sound =
+    await_sound script replay client earlier (batch_told replay.told client earlier) refl (ap is_submit_at e) sound
+step_sound script replay client (Some (Await earlier goal.Ack)) valid e sound = sound
+step_sound script replay client (Some (Await earlier goal.Watch)) valid e sound = sound
 step_sound script replay client (Some (Watch _ _ _ _)) valid e sound = sound
 step_sound script replay client (Some (Next _ _ _ _)) valid e sound = sound
 step_sound script replay client (Some (Read _ _)) valid e sound = sound

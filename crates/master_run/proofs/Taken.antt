@@ -6,16 +6,15 @@ use Rattle.std.specs.List.{AllByRecursion, cons_option, list_all}
 use Rattle.std.specs.Cmp.Lexicographic.{bytes_decides}
 use Rattle.std.proofs.lemmas.List.{length-append, length-map}
 use Rattle.executors.specs.declared.kinds.Kind.{Kind}
-use Rattle.executors.specs.declared.kinds.Kind.TheVariants as kind
 use Rattle.executors.specs.declared.queues.QueueSpec.{QueueSpec}
 use Rattle.executors.specs.declared.scripts.Script.{Script}
 use Rattle.executors.specs.declared.steps.Step.{Step}
 use Rattle.executors.specs.declared.steps.Step.TheVariants.{Submit, Await, Watch, Next, Read, Sleep, Close}
 use Rattle.executors.specs.declared.tasks.Task.{Task}
-use Rattle.executors.specs.declared.tasks.Task.TheVariants as task
-use Rattle.script_form.specs.Built.{IsBuilt, is_built_kind, is_built_queue, is_built_step}
+use Rattle.script_form.specs.Built.{IsBuilt, is_built_step}
 use Rattle.executors.specs.Kinds.{accepts}
-use Rattle.executors.specs.Scripts.{IsScript, are_steps, is_client, is_queue_for, is_step, is_task_for}
+use Rattle.executors.proofs.Takes.{accepts_task_for}
+use Rattle.executors.specs.Scripts.{IsScript, are_steps, is_client, is_queue_for, is_step}
 use Rattle.session_law.specs.declared.batches.Batch.{Batch}
 use Rattle.session_law.specs.declared.batches.Entry.{Entry}
 use Rattle.session_law.specs.Histories.{IsOwn, Placed, is_named, is_own_step, kind_named, placed_in, placed_of, step_at, submitted, task_at, tasks_at}
@@ -77,26 +76,6 @@ built_at script client number step built e =
     let at = stood script client number step e in
     all_get (is_built_step script) at.steps number step (all_get (list_all (is_built_step script)) script.clients client at.steps (steps_built script built) at.of_client) at.of_steps
 
--- a built executor takes every task that a script's form lets stand in its queue
-accepts_built : (script : Script) (kind : Kind) (task : Task) → is_built_kind kind ≡ true → is_task_for script kind task ≡ true → accepts kind task ≡ true
-accepts_built script kind.CreateIndex (task.CreateIndex index shards replicas) built h = refl
-accepts_built script kind.CreateIndex (task.DeleteIndex index) built h = absurd (true≢false (sym h))
-accepts_built script kind.CreateIndex (task.IndexSetting index key value) built h = absurd (true≢false (sym h))
-accepts_built script kind.CreateIndex (task.OpenClose index opened) built h = absurd (true≢false (sym h))
-accepts_built script kind.CreateIndex (task.Alias index alias add) built h = absurd (true≢false (sym h))
-accepts_built script kind.CreateIndex (task.ClusterSetting key value) built h = absurd (true≢false (sym h))
-accepts_built script kind.CreateIndex (task.Join node) built h = absurd (true≢false (sym h))
-accepts_built script kind.CreateIndex (task.Leave name) built h = absurd (true≢false (sym h))
-accepts_built script kind.CreateIndex task.Reelect built h = absurd (true≢false (sym h))
-accepts_built script kind.DeleteIndex task built h = absurd (true≢false (sym built))
-accepts_built script kind.IndexSettings task built h = absurd (true≢false (sym built))
-accepts_built script kind.OpenClose task built h = absurd (true≢false (sym built))
-accepts_built script kind.Aliases task built h = absurd (true≢false (sym built))
-accepts_built script kind.AliasesAtomic task built h = absurd (true≢false (sym built))
-accepts_built script kind.ClusterSettings task built h = absurd (true≢false (sym built))
-accepts_built script kind.Nodes task built h = absurd (true≢false (sym built))
-accepts_built script kind.Reelect task built h = absurd (true≢false (sym built))
-
 -- a queue that is named as another is of the same executor
 named_same : (script : Script) (number : ℕ) (queue : QueueSpec) (other : QueueSpec) (at : ℕ) → IsScript script → slice_get script.queues number ≡ Some queue
     → slice_get script.queues at ≡ Some other → bytes_eq other.name queue.name ≡ true → other.executor ≡ queue.executor
@@ -106,49 +85,49 @@ named_same script number queue other at valid e f same =
     ∙ named_kind script.queues number queue valid.queues_distinct e
 
 taken_by : (script : Script) (number : ℕ) (queue : QueueSpec) (task : Task) (at : ℕ) → IsScript script → slice_get script.queues number ≡ Some queue
-    → (found : Option QueueSpec) → slice_get script.queues at ≡ found → is_named queue.name found ≡ true → is_built_queue found ≡ true → is_queue_for script task found ≡ true
+    → (found : Option QueueSpec) → slice_get script.queues at ≡ found → is_named queue.name found ≡ true → is_queue_for script task found ≡ true
     → accepts queue.executor task ≡ true
-taken_by script number queue task at valid e None f named built for = absurd (true≢false (sym named))
-taken_by script number queue task at valid e (Some other) f named built for =
-    ap (λ k. accepts k task) (sym (named_same script number queue other at valid e f named)) ∙ accepts_built script other.executor task built for
+taken_by script number queue task at valid e None f named for = absurd (true≢false (sym named))
+taken_by script number queue task at valid e (Some other) f named for =
+    ap (λ k. accepts k task) (sym (named_same script number queue other at valid e f named)) ∙ accepts_task_for script other.executor task for
 
 step_taken : (script : Script) (number : ℕ) (queue : QueueSpec) → IsScript script → slice_get script.queues number ≡ Some queue
-    → (step : Step) → is_own_step script queue.name (Some step) ≡ true → is_built_step script step ≡ true → is_queued script step ≡ true
+    → (step : Step) → is_own_step script queue.name (Some step) ≡ true → is_queued script step ≡ true
     → (rest : List Task) → list_all (accepts queue.executor) rest ≡ true → list_all (accepts queue.executor) (cons_option (submitted step) rest) ≡ true
-step_taken script number queue valid e (Submit at task timeout ack) own built for rest all =
-    λ i. taken_by script number queue task at valid e (slice_get script.queues at) refl own (both_first _ _ built) for i && all i
-step_taken script number queue valid e (Await _ _) own built for rest all = all
-step_taken script number queue valid e (Watch _ _ _ _) own built for rest all = all
-step_taken script number queue valid e (Next _ _ _ _) own built for rest all = all
-step_taken script number queue valid e (Read _ _) own built for rest all = all
-step_taken script number queue valid e (Sleep _) own built for rest all = all
-step_taken script number queue valid e Close own built for rest all = all
+step_taken script number queue valid e (Submit at task timeout ack) own for rest all =
+    λ i. taken_by script number queue task at valid e (slice_get script.queues at) refl own for i && all i
+step_taken script number queue valid e (Await _ _) own for rest all = all
+step_taken script number queue valid e (Watch _ _ _ _) own for rest all = all
+step_taken script number queue valid e (Next _ _ _ _) own for rest all = all
+step_taken script number queue valid e (Read _ _) own for rest all = all
+step_taken script number queue valid e (Sleep _) own for rest all = all
+step_taken script number queue valid e Close own for rest all = all
 
-entry_taken : (script : Script) (number : ℕ) (queue : QueueSpec) (entry : Entry) → IsScript script → IsBuilt script → slice_get script.queues number ≡ Some queue
+entry_taken : (script : Script) (number : ℕ) (queue : QueueSpec) (entry : Entry) → IsScript script → slice_get script.queues number ≡ Some queue
     → Stands script queue.name entry.client entry.step
     → (rest : List Task) → list_all (accepts queue.executor) rest ≡ true → list_all (accepts queue.executor) (cons_option (task_at script entry) rest) ≡ true
-entry_taken script number queue entry valid built e at rest all =
+entry_taken script number queue entry valid e at rest all =
     let here : step_at script entry.client entry.step ≡ Some at.step =
     ap (option_and_then (λ steps. slice_get steps entry.step)) at.of_client ∙ at.of_steps in
     subst (λ (o : Option Step). list_all (accepts queue.executor) (cons_option (option_and_then submitted o) rest) ≡ true) (sym here)
-    (step_taken script number queue valid e at.step at.own (built_at script entry.client entry.step at.step built here) (queued script entry.client entry.step at.step valid here) rest all)
+    (step_taken script number queue valid e at.step at.own (queued script entry.client entry.step at.step valid here) rest all)
 
-entries_taken : (script : Script) (number : ℕ) (queue : QueueSpec) (entries : List Entry) → IsScript script → IsBuilt script → slice_get script.queues number ≡ Some queue
+entries_taken : (script : Script) (number : ℕ) (queue : QueueSpec) (entries : List Entry) → IsScript script → slice_get script.queues number ≡ Some queue
     → AllByRecursion (IsOwn script) (map (λ e. record { queue = queue.name; entry = e }) entries) → list_all (accepts queue.executor) (tasks_at script entries) ≡ true
-entries_taken script number queue [] valid built e own = refl
-entries_taken script number queue (entry ∷ entries) valid built e own =
-    entry_taken script number queue entry valid built e (stands script (record { queue = queue.name; entry = entry }) own.0) (tasks_at script entries)
-    (entries_taken script number queue entries valid built e own.1)
+entries_taken script number queue [] valid e own = refl
+entries_taken script number queue (entry ∷ entries) valid e own =
+    entry_taken script number queue entry valid e (stands script (record { queue = queue.name; entry = entry }) own.0) (tasks_at script entries)
+    (entries_taken script number queue entries valid e own.1)
 
 own_last : (script : Script) (before more : List Placed) → AllByRecursion (IsOwn script) (before ++ more) → AllByRecursion (IsOwn script) more
 own_last script [] more own = own
 own_last script (placed ∷ before) more own = own_last script before more own.1
 
-pub tasks_taken : (script : Script) (book : Chronicle) (number : ℕ) (queue : QueueSpec) (entries : List Entry) (at : ℕ) → IsScript script → IsBuilt script
+pub tasks_taken : (script : Script) (book : Chronicle) (number : ℕ) (queue : QueueSpec) (entries : List Entry) (at : ℕ) → IsScript script
     → slice_get script.queues number ≡ Some queue → IsKeptBook script (noted book queue entries at (ran_at script book.world queue entries at))
     → list_all (accepts queue.executor) (tasks_at script entries) ≡ true
-tasks_taken script book number queue entries at valid built e kept =
+tasks_taken script book number queue entries at valid e kept =
     let made = ran_at script book.world queue entries at in
     let batch : Batch = record { queue = queue.name; at = at; entries = entries; result = made.result } in
     let own = subst (AllByRecursion (IsOwn script)) (placed_push book.batches batch) kept.serial.own in
-    entries_taken script number queue entries valid built e (own_last script (placed_of book.batches) (placed_in batch) own)
+    entries_taken script number queue entries valid e (own_last script (placed_of book.batches) (placed_in batch) own)

@@ -1,12 +1,12 @@
 -- The serial rule so far, and the session that it makes of a script: rounds of turns, until one in which no turn acts.
 -- The rule is this project's own.
 use Rattle.std.specs.Prelude.{ℕ, zero, suc, ◌+◌, ◌*◌, false, List, [], ◌∷◌, length, if◌then◌else◌}
-use Rattle.std.specs.Map.{values_of}
 use Rattle.executors.specs.declared.scripts.Script.{Script}
 use Rattle.executors.specs.declared.steps.Step.{Step}
 use Rattle.executors.specs.Scripts.{all_steps}
 use Rattle.session_law.specs.declared.sessions.Session.{Session}
 use Rattle.master_run.specs.declared.replaying.Replay.{Replay}
+use Rattle.master_run.specs.Tellings.{replies_of}
 use Rattle.master_run.specs.Turns.{client_turn, first_replay, master_turn}
 
 -- no turn of the round has acted yet
@@ -38,7 +38,7 @@ performed script = rounds script (most_rounds script) (first_replay script)
 abbrev pub session_of : Replay → Session
 session_of replay = record {
   batches = replay.book.batches;
-  replies = values_of replay.told;
+  replies = replies_of replay.told;
   acks = [];
   watches = [];
   reads = [];

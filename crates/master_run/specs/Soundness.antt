@@ -1,14 +1,20 @@
--- What holds of a replay before and after each turn: its book is kept, and all that waits may still join it.
-use Rattle.std.specs.Prelude.{◌≡◌, ℕ, ◌<◌, ◌≤◌, Bool, false, ◌==◌, List, [], ◌∷◌, length, Option, Some, None, IsTrue, slice_get}
-use Rattle.std.specs.List.{AllByRecursion}
+-- What holds of a replay before and after each turn: its book is kept, all that waits may still join it, and what was
+-- submitted waits or was told.
+use Rattle.std.specs.Prelude.{◌≡◌, ℕ, ◌<◌, ◌≤◌, Bool, false, ◌==◌, ◌&&◌, ◌||◌, List, [], ◌∷◌, length, Option, Some, None, IsTrue, is_some, slice_get}
+use Rattle.std.specs.BTreeMap.{is_at}
+use Rattle.std.specs.List.{AllByRecursion, list_any}
+use Rattle.std.specs.Map.{lookup}
 use Rattle.executors.specs.declared.queues.QueueSpec.{QueueSpec}
 use Rattle.executors.specs.declared.scripts.Script.{Script}
 use Rattle.executors.specs.declared.steps.Step.{Step}
 use Rattle.executors.specs.declared.steps.Step.TheVariants.{Submit}
+use Rattle.executors.specs.Scripts.{is_submit}
 use Rattle.session_law.specs.Histories.{IsApart, Placed, placed_of, step_at}
 use Rattle.master_run.specs.declared.replaying.Replay.{Replay}
+use Rattle.master_run.specs.declared.tellings.Telling.{Telling}
 use Rattle.master_run.specs.declared.waitings.Waiting.{Waiting}
 use Rattle.master_run.specs.Books.{IsKeptBook}
+use Rattle.master_run.specs.Tellings.{Tellings, step_cmp}
 use Rattle.master_run.specs.Turns.{next_at}
 
 -- an entry's step was performed
@@ -43,6 +49,33 @@ abbrev pub AreApartAmong : List QueueSpec → List Waiting → Type 0
 AreApartAmong queues [] = Unit {0}
 AreApartAmong queues (first ∷ more) = AllByRecursion (λ w. IsApart (placed_at queues first) (placed_at queues w)) more × AreApartAmong queues more
 
+-- a batch of this number ran
+pub record IsRun (batches number : ℕ) : Type 0 where
+  pub least : 1 ≤ number
+  pub most : number ≤ batches
+
+abbrev pub AreRun : ℕ → Tellings → Type 0
+AreRun batches told = AllByRecursion (λ t. IsRun batches t.1.batch) told
+
+abbrev pub is_submit_at : Option Step → Bool
+is_submit_at None = false
+is_submit_at (Some step) = is_submit step
+
+abbrev pub is_entry_of : ℕ → ℕ → Waiting → Bool
+is_entry_of client step waiting = (waiting.entry.client == client) && (waiting.entry.step == step)
+
+abbrev pub is_told : Tellings → ℕ → ℕ → Bool
+is_told told client step = is_some (lookup (is_at (step_cmp (client, step))) told)
+
+-- a client's step waits, or the client was told how it ended
+abbrev pub is_held : List Waiting → Tellings → ℕ → ℕ → Bool
+is_held waiting told client step = list_any (is_entry_of client step) waiting || is_told told client step
+
+-- so it is with each submit that was performed
+abbrev pub AreHeld : Script → List ℕ → List Waiting → Tellings → Type 0
+AreHeld script positions waiting told = (client step : ℕ) → step < next_at positions client → IsTrue (is_submit_at (step_at script client step))
+    → IsTrue (is_held waiting told client step)
+
 pub record IsSound (script : Script) (replay : Replay) : Type 0 where
   pub places : length replay.positions ≡ length script.clients
   pub kept : IsKeptBook script replay.book
@@ -50,3 +83,7 @@ pub record IsSound (script : Script) (replay : Replay) : Type 0 where
   pub waiting : AllByRecursion (IsWaiting script replay.positions (length replay.book.batches)) replay.waiting
   pub apart : AreApartFrom script.queues (placed_of replay.book.batches) replay.waiting
   pub among : AreApartAmong script.queues replay.waiting
+  pub awaited_places : length replay.awaited ≡ length script.clients
+  pub awaited : AllByRecursion (λ number. number ≤ length replay.book.batches) replay.awaited
+  pub told : AreRun (length replay.book.batches) replay.told
+  pub held : AreHeld script replay.positions replay.waiting replay.told

@@ -1,5 +1,4 @@
-ghost use Rattle.std.specs.Prelude.{◌≡◌, IfOk, OnOk};
-ghost use Rattle.script_form.specs.Built.{IsBuilt};
+ghost use Rattle.std.specs.Prelude.{◌≡◌, ◌<◌, ◌^◌, IfOk, OnOk, length};
 ghost use Rattle.executors.specs.Scripts.{IsScript};
 ghost use Rattle.std.specs.Option.{option_copied};
 ghost use Rattle.session_law.specs.Histories.{task_at, tasks_at};
@@ -66,7 +65,6 @@ impl Book {
         at: u64,
     ) -> Result<(), OutOfMemory>
         requires script { IsScript script.now }
-        requires built { IsBuilt script.now }
         requires kept { IsKeptBook script.now self.old }
         requires stays { IsKeptBook script.now (added script.now self.old queue entries.items at) }
         ensures added { OnOk result (self.new ≡ added script.now self.old queue entries.items at) }
@@ -95,6 +93,14 @@ impl Book {
         ensures { result.now ≡ self.now.ends }
     {
         self.ends.as_slice()
+    }
+
+    /// How many batches there are.
+    pub(crate) fn count(&self) -> u32
+        requires { length self.now.batches < 2 ^ 32 }
+        ensures { result ≡ length self.now.batches }
+    {
+        self.batches.len() as u32
     }
 
     /// The batches and the state after them. It takes no memory.

@@ -55,7 +55,6 @@ fn perform_rounds(
     most: u64,
 ) -> Result<(), OutOfMemory>
     requires script { IsScript script.now }
-    requires built { IsBuilt script.now }
     requires sound { IsSound script.now replay.old }
     ensures { OnOk result (replay.new ≡ rounds script.now most replay.old) }
 {

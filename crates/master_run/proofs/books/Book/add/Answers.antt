@@ -33,4 +33,4 @@ run_batch-requires-clause-accepted c =
     let kept = subst (λ (o : Option QueueSpec). IsKeptBook script (added_to script c.args.self.now o c.args.entries.items c.args.at)) found c.requires.stays in
     let items = c.in_ok-tasks.ensures ∙ ap (tasks_at script) c.deref.ensures.value in
     subst (λ (ts : List Task). list_all (accepts c.in-Some.spec.now.executor) ts ≡ true) (sym items)
-    (tasks_taken script c.args.self.now c.args.queue c.in-Some.spec.now c.args.entries.items c.args.at c.requires.script c.requires.built found kept)
+    (tasks_taken script c.args.self.now c.args.queue c.in-Some.spec.now c.args.entries.items c.args.at c.requires.script found kept)
