@@ -1,4 +1,3 @@
-pub mod Built
 pub mod Contexts
 pub mod Executions
 pub mod Kinds

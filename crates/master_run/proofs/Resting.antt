@@ -8,7 +8,7 @@ use Rattle.std.proofs.lemmas.Option.{slice_get_within}
 use Rattle.executors.specs.declared.scripts.Script.{Script}
 use Rattle.executors.specs.declared.steps.Step.{Step}
 use Rattle.executors.specs.declared.steps.Step.TheVariants.{Submit, Await, Watch, Next, Read, Sleep, Close}
-use Rattle.executors.specs.Built.{IsBuilt}
+use Rattle.script_form.specs.Built.{IsBuilt}
 use Rattle.executors.specs.Scripts.{IsScript}
 use Rattle.session_law.specs.Histories.{step_at}
 use Rattle.master_run.specs.declared.replaying.Replay.{Replay}

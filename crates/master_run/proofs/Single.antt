@@ -11,7 +11,7 @@ use Rattle.executors.specs.declared.queues.QueueSpec.{QueueSpec}
 use Rattle.executors.specs.declared.scripts.Script.{Script}
 use Rattle.executors.specs.declared.steps.Step.{Step}
 use Rattle.executors.specs.declared.steps.Step.TheVariants.{Submit, Await, Watch, Next, Read, Sleep, Close}
-use Rattle.executors.specs.Built.{IsBuilt, is_built_step}
+use Rattle.script_form.specs.Built.{IsBuilt, is_built_step}
 use Rattle.executors.specs.Scripts.{IsScript, all_steps, is_submit}
 use Rattle.session_law.specs.declared.batches.Batch.{Batch}
 use Rattle.session_law.specs.Histories.{step_at}

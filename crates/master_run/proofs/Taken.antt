@@ -13,7 +13,7 @@ use Rattle.executors.specs.declared.steps.Step.{Step}
 use Rattle.executors.specs.declared.steps.Step.TheVariants.{Submit, Await, Watch, Next, Read, Sleep, Close}
 use Rattle.executors.specs.declared.tasks.Task.{Task}
 use Rattle.executors.specs.declared.tasks.Task.TheVariants as task
-use Rattle.executors.specs.Built.{IsBuilt, is_built_kind, is_built_queue, is_built_step}
+use Rattle.script_form.specs.Built.{IsBuilt, is_built_kind, is_built_queue, is_built_step}
 use Rattle.executors.specs.Kinds.{accepts}
 use Rattle.executors.specs.Scripts.{IsScript, are_steps, is_client, is_queue_for, is_step, is_task_for}
 use Rattle.session_law.specs.declared.batches.Batch.{Batch}

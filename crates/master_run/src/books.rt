@@ -1,5 +1,5 @@
 ghost use Rattle.std.specs.Prelude.{◌≡◌, IfOk, OnOk};
-ghost use Rattle.executors.specs.Built.{IsBuilt};
+ghost use Rattle.script_form.specs.Built.{IsBuilt};
 ghost use Rattle.executors.specs.Scripts.{IsScript};
 ghost use Rattle.std.specs.Option.{option_copied};
 ghost use Rattle.session_law.specs.Histories.{task_at, tasks_at};

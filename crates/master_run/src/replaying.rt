@@ -1,6 +1,6 @@
 ghost use Rattle.std.specs.Prelude.{◌≡◌, ◌<◌, IfOk, OnOk, length};
 ghost use Rattle.std.specs.Option.{option_copied};
-ghost use Rattle.executors.specs.Built.{IsBuilt};
+ghost use Rattle.script_form.specs.Built.{IsBuilt};
 ghost use Rattle.executors.specs.Scripts.{IsScript};
 ghost use Rattle.session_law.specs.Histories.{step_at};
 ghost use Rattle.master_run.specs.Replays.{round_of, session_of};

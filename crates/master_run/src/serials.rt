@@ -1,5 +1,5 @@
 ghost use Rattle.std.specs.Prelude.{◌≡◌, ◌≤◌, IfOk, OnOk, length};
-ghost use Rattle.executors.specs.Built.{IsBuilt};
+ghost use Rattle.script_form.specs.Built.{IsBuilt};
 ghost use Rattle.executors.specs.Scripts.{IsScript};
 ghost use Rattle.master_run.specs.Replays.{most_rounds, performed, replayed, rounds};
 ghost use Rattle.master_run.specs.Rests.{IsAtRest};

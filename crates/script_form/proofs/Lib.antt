@@ -1,4 +1,10 @@
-mod Apart
+mod Casts
+mod Closing
+mod Depths
+mod Names
+mod Places
+mod Submits
+mod Tallies
 mod Utf8
 mod Valid
 mod Views

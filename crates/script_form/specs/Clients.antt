@@ -1,94 +1,51 @@
--- The clients of a script of the first form: none or one, which has no step or one, which submits a task that
--- creates an index. The words are this project's own.
-use Rattle.std.specs.Prelude.{ℕ, ◌+◌, Bool, true, false, ◌&&◌, List, [], ◌∷◌, Some, None, Option, codes, bytes_eq, slice_get, if◌then◌else◌}
+-- The clients of a script: at most 32, each with at most 4,096 steps. One step of a script may close. The limits are
+-- this project's own.
+use Rattle.std.specs.Prelude.{◌≡◌, ℕ, ◌+◌, ◌≤◌, Bool, ◌&&◌, ◌||◌, List, [], Result, Ok, Err, count_by, flat_map, if◌then◌else◌}
+use Rattle.std.specs.List.{list_any}
 use Rattle.serde_json.specs.Data.{Data}
-use Rattle.serde_json.specs.Find.{get}
-use Rattle.executors.specs.declared.kinds.Kind.{Kind}
-use Rattle.executors.specs.declared.kinds.Kind.TheVariants as kind
 use Rattle.executors.specs.declared.queues.QueueSpec.{QueueSpec}
+use Rattle.executors.specs.declared.scripts.ScriptNode.{ScriptNode}
 use Rattle.executors.specs.declared.steps.Step.{Step}
-use Rattle.executors.specs.declared.steps.Step.TheVariants as step
-use Rattle.executors.specs.declared.tasks.Task.{Task}
-use Rattle.executors.specs.declared.tasks.Task.TheVariants as task
-use Rattle.script_form.specs.Parts.{◌>>=◌, has_only, list_of, none_or_one, text_of, word_of, count_of}
+use Rattle.executors.specs.Scripts.{is_close}
+use Rattle.script_form.specs.declared.limits.LimitName.TheVariants.{Steps, Clients}
+use Rattle.script_form.specs.declared.misfits.Misfit.{Misfit}
+use Rattle.script_form.specs.declared.rules.Rule.TheVariants.{Close}
+use Rattle.script_form.specs.Misfits.{◌>>=◌, bad}
+use Rattle.script_form.specs.Parts.{short_list, each}
+use Rattle.script_form.specs.Steps.{step_of}
 
--- ---- tasks
+-- a step may close unless an earlier one does
+abbrev pub fit_step : Bool → Step → Result Step Misfit
+fit_step closed step = if closed && is_close step then bad Close else Ok step
 
--- the members of a task; all but the index may be left out
-abbrev pub task_members : List (List ℕ)
-task_members = codes "index" ∷ codes "shards" ∷ codes "replicas" ∷ []
+abbrev pub step_unless_closed : List ScriptNode → List QueueSpec → Bool → List Step → Data → Result Step Misfit
+step_unless_closed nodes queues closed before d = step_of nodes queues before d >>= fit_step closed
 
--- a task that creates an index, of 1 shard and 1 replica where it doesn't say so
-unfoldable pub task_of : Data → Option Task
-task_of d = if has_only task_members d then (do
-  index ← get (codes "index") d >>= text_of
-  shards ← count_of (codes "shards") d
-  replicas ← count_of (codes "replicas") d
-  Some (task.CreateIndex index shards replicas)) else None
+-- the next step of a client, where `closed` says that an earlier client closes
+abbrev pub next_step : List ScriptNode → List QueueSpec → Bool → List Step → Data → Result Step Misfit
+next_step nodes queues closed before d = step_unless_closed nodes queues (closed || list_any is_close before) before d
 
--- ---- steps
+abbrev pub steps_of : List ScriptNode → List QueueSpec → Bool → Data → Result (List Step) Misfit
+steps_of nodes queues closed d = short_list 4096 Steps d >>= each (next_step nodes queues closed) []
 
--- whether an executor is the one that creates indices
-abbrev pub creates : Kind → Bool
-creates kind.CreateIndex = true
-creates _ = false
+abbrev pub do_close : List (List Step) → Bool
+do_close clients = list_any (list_any is_close) clients
 
--- the number of the queue of this name, if it creates indices; the first queue has number `n`
-abbrev pub number_from : ℕ → List QueueSpec → List ℕ → Option ℕ
-number_from n [] name = None
-number_from n (queue ∷ queues) name = if bytes_eq name queue.name && creates queue.executor then Some n else number_from (n + 1) queues name
+abbrev pub next_client : List ScriptNode → List QueueSpec → List (List Step) → Data → Result (List Step) Misfit
+next_client nodes queues before d = steps_of nodes queues (do_close before) d
 
--- the number of the queue that a value names, if it creates indices
-abbrev pub queue_number : List QueueSpec → Data → Option ℕ
-queue_number queues d = text_of d >>= number_from 0 queues
-
--- the members of a step, each of them required
-abbrev pub step_members : List (List ℕ)
-step_members = codes "do" ∷ codes "queue" ∷ codes "task" ∷ []
-
--- a step that submits a task to one of the queues
-unfoldable pub step_of : List QueueSpec → Data → Option Step
-step_of queues d = if has_only step_members d then (do
-  word ← get (codes "do") d >>= word_of (codes "submit")
-  queue ← get (codes "queue") d >>= queue_number queues
-  made ← get (codes "task") d >>= task_of
-  Some (step.Submit queue made None None)) else None
-
--- ---- clients
-
--- no step or one
-abbrev pub steps_of : List QueueSpec → Data → Option (List Step)
-steps_of queues d = list_of d >>= none_or_one (step_of queues)
-
--- no client or one
-abbrev pub clients_of : List QueueSpec → Data → Option (List (List Step))
-clients_of queues d = list_of d >>= none_or_one (steps_of queues)
+abbrev pub clients_of : List ScriptNode → List QueueSpec → Data → Result (List (List Step)) Misfit
+clients_of nodes queues d = short_list 32 Clients d >>= each (next_client nodes queues) []
 
 -- ---- what is so of the clients that are read
 
--- whether there is a queue, and it creates indices
-abbrev pub is_creating : Option QueueSpec → Bool
-is_creating None = false
-is_creating (Some queue) = creates queue.executor
+-- how many steps close
+abbrev pub closes : List (List Step) → ℕ
+closes clients = count_by is_close (flat_map (λ steps. steps) clients)
 
--- whether a task creates an index
-abbrev pub is_creation : Task → Bool
-is_creation (task.CreateIndex index shards replicas) = true
-is_creation _ = false
+abbrev pub one_if_so : Bool → ℕ
+one_if_so closed = if closed then 1 else 0
 
--- whether a step submits such a task to such a queue, and waits for ever
-abbrev pub is_submission : List QueueSpec → Step → Bool
-is_submission queues (step.Submit queue made None None) = is_creating (slice_get queues queue) && is_creation made
-is_submission queues _ = false
-
--- whether a client does nothing, or that alone
-abbrev pub is_submitting : List QueueSpec → List Step → Bool
-is_submitting queues [] = true
-is_submitting queues (only ∷ []) = is_submission queues only
-is_submitting queues (_ ∷ _ ∷ _) = false
-
--- whether there is no client, or one such
-abbrev pub are_submitting : List QueueSpec → List (List Step) → Bool
-are_submitting queues [] = true
-are_submitting queues (only ∷ []) = is_submitting queues only
-are_submitting queues (_ ∷ _ ∷ _) = false
+-- with the earlier ones, of which `closed` says whether one closes, no more than one step closes
+abbrev pub IsClosedOnce : Bool → List Step → Type 0
+IsClosedOnce closed steps = one_if_so closed + count_by is_close steps ≤ 1

@@ -1,6 +1,15 @@
+pub mod Built
+pub mod Casts
 pub mod Clients
+pub mod Faults
+pub mod Misfits
+pub mod Naming
 pub mod Nodes
 pub mod Parts
+pub mod Predicates
 pub mod Queues
 pub mod Reading
 pub mod Refusals
+pub mod Steps
+pub mod Tasks
+pub mod Turns

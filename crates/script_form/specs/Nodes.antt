@@ -1,33 +1,74 @@
--- The nodes of a script of the first form: one, which is the master.
-use Rattle.std.specs.Prelude.{Bool, true, false, List, [], ◌∷◌, Some, None, Option, codes, if◌then◌else◌, ◌&&◌}
+-- The nodes of a script: 1 to 30, each of a name of its own. The first one is the master: it can vote, and is in the
+-- first state. The rules are this project's own.
+use Rattle.std.specs.Prelude.{◌≡◌, ℕ, ◌≤◌, Bool, true, not, ◌&&◌, List, [], ◌∷◌, Some, None, Option, Result, Ok, Err, codes, bytes_eq, length, map, if◌then◌else◌, IsTrue}
+use Rattle.std.specs.List.{list_all, list_any}
 use Rattle.serde_json.specs.Data.{Data}
-use Rattle.serde_json.specs.Find.{get}
 use Rattle.executors.specs.declared.scripts.ScriptNode.{ScriptNode}
-use Rattle.executors.specs.Scripts.{is_name}
-use Rattle.script_form.specs.Parts.{◌>>=◌, has_only, list_of, name_of}
+use Rattle.executors.specs.Scripts.{has_master}
+use Rattle.script_form.specs.Naming.{AreNamed}
+use Rattle.script_form.specs.declared.limits.LimitName.TheVariants.{Nodes}
+use Rattle.script_form.specs.declared.misfits.Misfit.{Misfit}
+use Rattle.script_form.specs.declared.rules.Rule.TheVariants.{Range, Twice, Master, Reference}
+use Rattle.script_form.specs.Misfits.{◌>>=◌, bad, some_or, at_member, within}
+use Rattle.script_form.specs.Parts.{check_members, required, optional, short_list, each, flag_of, name_of, text_of}
 
--- a node that can vote and is in the first state
-unfoldable pub node_of : Data → Option ScriptNode
-node_of d = if has_only (codes "name" ∷ []) d then (do
-  name ← get (codes "name") d >>= name_of
-  Some (record { name = name; eligible = true; member = true })) else None
+-- a node: `name`, `eligible` and `member`, of which the last two may be left out
+unfoldable pub node_of : Data → Result ScriptNode Misfit
+node_of d =
+    check_members (codes "name" ∷ codes "eligible" ∷ codes "member" ∷ []) d >>= λ _.
+    required (codes "name") name_of d >>= λ name.
+    optional (codes "eligible") true flag_of d >>= λ eligible.
+    optional (codes "member") true flag_of d >>= λ is_member.
+    Ok (record { name = name; eligible = eligible; member = is_member })
 
--- exactly one
-abbrev pub one_node : List Data → Option (List ScriptNode)
-one_node (d ∷ []) = node_of d >>= λ node. Some (node ∷ [])
-one_node _ = None
+abbrev pub is_node_name : List ScriptNode → List ℕ → Bool
+is_node_name nodes name = list_any (λ n. bytes_eq name n.name) nodes
 
--- the nodes of a script
-abbrev pub nodes_of : Data → Option (List ScriptNode)
-nodes_of d = list_of d >>= one_node
+-- whether a node may be the master
+abbrev pub may_lead : ScriptNode → Bool
+may_lead node = node.eligible && node.member
+
+-- what may be first or stand after other nodes
+abbrev pub fit_node : List ScriptNode → ScriptNode → Result ScriptNode Misfit
+fit_node [] node = if may_lead node then Ok node else bad Master
+fit_node (first ∷ before) node = if is_node_name (first ∷ before) node.name then within (at_member (codes "name")) (bad Twice) else Ok node
+
+abbrev pub next_node : List ScriptNode → Data → Result ScriptNode Misfit
+next_node before d = node_of d >>= fit_node before
+
+abbrev pub some_nodes : List Data → Result (List ScriptNode) Misfit
+some_nodes [] = bad Range
+some_nodes (d ∷ ds) = each next_node [] (d ∷ ds)
+
+-- at least one, and at most 30
+abbrev pub nodes_of : Data → Result (List ScriptNode) Misfit
+nodes_of d = short_list 30 Nodes d >>= some_nodes
+
+-- ---- the node that a text names
+
+abbrev pub find_node : List ScriptNode → List ℕ → Option ScriptNode
+find_node [] name = None
+find_node (node ∷ nodes) name = if bytes_eq name node.name then Some node else find_node nodes name
+
+abbrev pub node_named : List ScriptNode → Data → Result ScriptNode Misfit
+node_named nodes d = text_of d >>= λ name. some_or Reference (find_node nodes name)
 
 -- ---- what is so of the nodes that are read
 
--- whether a node is fit to be the master
-abbrev pub is_master_node : ScriptNode → Bool
-is_master_node node = is_name node.name && (node.eligible && node.member)
+abbrev pub node_name : ScriptNode → List ℕ
+node_name node = node.name
 
--- whether there is one node, which is
-abbrev pub is_one_master : List ScriptNode → Bool
-is_one_master (node ∷ []) = is_master_node node
-is_one_master _ = false
+-- whether the first one may be the master
+abbrev pub is_led : List ScriptNode → Bool
+is_led [] = true
+is_led (node ∷ _) = may_lead node
+
+-- whether a node may stand first
+abbrev pub is_fit_first : List ScriptNode → ScriptNode → Bool
+is_fit_first [] node = may_lead node
+is_fit_first (_ ∷ _) node = true
+
+pub record AreNodes (nodes : List ScriptNode) : Type 0 where
+  pub limit : length nodes ≤ 30
+  pub names : AreNamed node_name nodes
+  pub master : IsTrue (has_master nodes)

@@ -1,16 +1,18 @@
--- The queues of a script: at most 64, each with a name of its own, an executor and a priority. The words are this
+-- The queues of a script: at most 64, each of a name of its own, with an executor and a priority. The words are this
 -- project's own; the priorities are those of Elasticsearch (`Priority`).
-use Rattle.std.specs.Prelude.{◌≡◌, ℕ, Bool, false, List, [], ◌∷◌, Some, None, Option, length, map, codes, nat_lt, bytes_eq, if◌then◌else◌, IsTrue}
-use Rattle.std.specs.List.{list_all, list_any}
+use Rattle.std.specs.Prelude.{◌≡◌, ℕ, ◌+◌, Bool, List, [], ◌∷◌, Some, None, Option, Result, Ok, Err, codes, bytes_eq, option_map, slice_get, if◌then◌else◌}
+use Rattle.std.specs.List.{list_any}
 use Rattle.serde_json.specs.Data.{Data}
-use Rattle.serde_json.specs.Find.{get}
 use Rattle.executors.specs.declared.kinds.Kind.{Kind}
 use Rattle.executors.specs.declared.kinds.Kind.TheVariants as kind
 use Rattle.executors.specs.declared.queues.Priority.{Priority}
 use Rattle.executors.specs.declared.queues.Priority.TheVariants as priority
 use Rattle.executors.specs.declared.queues.QueueSpec.{QueueSpec}
-use Rattle.executors.specs.Scripts.{is_name, are_distinct}
-use Rattle.script_form.specs.Parts.{◌>>=◌, has_only, optional, list_of, each, text_of, name_of}
+use Rattle.script_form.specs.declared.limits.LimitName.TheVariants.{Queues}
+use Rattle.script_form.specs.declared.misfits.Misfit.{Misfit}
+use Rattle.script_form.specs.declared.rules.Rule.TheVariants.{Twice, Reference}
+use Rattle.script_form.specs.Misfits.{◌>>=◌, bad, some_or, at_member, within}
+use Rattle.script_form.specs.Parts.{check_members, required, optional, short_list, each, text_of, name_of, word_of}
 
 -- the executor of this name
 unfoldable pub kind_named : List ℕ → Option Kind
@@ -25,10 +27,6 @@ kind_named word =
     (if bytes_eq word (codes "nodes") then Some kind.Nodes else
     (if bytes_eq word (codes "reelect") then Some kind.Reelect else None))))))))
 
--- the executor that a value names
-abbrev pub kind_of : Data → Option Kind
-kind_of d = text_of d >>= kind_named
-
 -- the priority of this name
 unfoldable pub priority_named : List ℕ → Option Priority
 priority_named word =
@@ -39,43 +37,40 @@ priority_named word =
     (if bytes_eq word (codes "LOW") then Some priority.Low else
     (if bytes_eq word (codes "LANGUID") then Some priority.Languid else None)))))
 
--- NORMAL where it is left out
-abbrev pub priority_of : Data → Option Priority
-priority_of d = optional priority.Normal (λ p. text_of p >>= priority_named) (get (codes "priority") d)
+-- a queue: `name`, `executor` and `priority`, of which the last may be left out
+unfoldable pub queue_of : Data → Result QueueSpec Misfit
+queue_of d =
+    check_members (codes "name" ∷ codes "executor" ∷ codes "priority" ∷ []) d >>= λ _.
+    required (codes "name") name_of d >>= λ name.
+    required (codes "executor") (word_of kind_named) d >>= λ executor.
+    optional (codes "priority") priority.Normal (word_of priority_named) d >>= λ level.
+    Ok (record { name = name; executor = executor; priority = level })
 
--- whether a queue has the name
-abbrev pub is_name_taken : List QueueSpec → List ℕ → Bool
-is_name_taken queues name = list_any (λ q. bytes_eq name q.name) queues
+abbrev pub is_queue_name : List QueueSpec → List ℕ → Bool
+is_queue_name queues name = list_any (λ q. bytes_eq name q.name) queues
 
--- a name that no queue before has
-abbrev pub new_name : List QueueSpec → Data → Option (List ℕ)
-new_name before d = name_of d >>= λ name. if is_name_taken before name then None else Some name
+-- no name twice
+abbrev pub fit_queue : List QueueSpec → QueueSpec → Result QueueSpec Misfit
+fit_queue before queue = if is_queue_name before queue.name then within (at_member (codes "name")) (bad Twice) else Ok queue
 
--- the members of a queue, the last of which may be left out
-abbrev pub queue_members : List (List ℕ)
-queue_members = codes "name" ∷ codes "executor" ∷ codes "priority" ∷ []
+abbrev pub next_queue : List QueueSpec → Data → Result QueueSpec Misfit
+next_queue before d = queue_of d >>= fit_queue before
 
--- the queue that stands after those before it
-unfoldable pub next_queue : List QueueSpec → Data → Option QueueSpec
-next_queue before d = if has_only queue_members d then (do
-  name ← get (codes "name") d >>= new_name before
-  executor ← get (codes "executor") d >>= kind_of
-  level ← priority_of d
-  Some (record { name = name; executor = executor; priority = level })) else None
+abbrev pub queues_of : Data → Result (List QueueSpec) Misfit
+queues_of d = short_list 64 Queues d >>= each next_queue []
 
--- at most 64, one after the other
-unfoldable pub queues_of : Data → Option (List QueueSpec)
-queues_of d = do
-  ds ← list_of d
-  if nat_lt 64 (length ds) then None else each next_queue [] ds
+-- ---- the queue that a text names: its number, counted on from `n`, and its executor
 
--- ---- what is so of every list of queues that is read
+abbrev pub find_queue : ℕ → List QueueSpec → List ℕ → Option (ℕ × Kind)
+find_queue n [] name = None
+find_queue n (queue ∷ queues) name = if bytes_eq name queue.name then Some (n, queue.executor) else find_queue (n + 1) queues name
 
--- that a queue may stand after those before it
-abbrev pub IsNextQueue : List QueueSpec → QueueSpec → Type 0
-IsNextQueue before queue = IsTrue (is_name queue.name) × (is_name_taken before queue.name ≡ false)
+abbrev pub queue_named : List QueueSpec → Data → Result (ℕ × Kind) Misfit
+queue_named queues d = text_of d >>= λ name. some_or Reference (find_queue 0 queues name)
 
--- that queues have names, each its own
-pub record AreNamed (queues : List QueueSpec) : Type 0 where
-  pub named : IsTrue (list_all (λ q. is_name q.name) queues)
-  pub distinct : IsTrue (are_distinct (map (λ q. q.name) queues))
+-- the executor of the queue of a number
+abbrev pub kind_at : List QueueSpec → ℕ → Option Kind
+kind_at queues number = option_map (λ q. q.executor) (slice_get queues number)
+
+abbrev pub queue_name : QueueSpec → List ℕ
+queue_name queue = queue.name

@@ -1,43 +1,80 @@
--- The first form of a script, and which refusal each text gets that isn't of it.
-use Rattle.std.specs.Prelude.{◌≡◌, ℕ, ◌==◌, List, [], ◌∷◌, Some, None, Option, Result, Ok, Err, codes, if◌then◌else◌}
+-- The script that bytes spell, or the first thing that is wrong in them. The form of scripts is this project's own.
+use Rattle.std.specs.Prelude.{◌≡◌, ℕ, ◌*◌, ◌≤◌, ◌==◌, Bool, ◌&&◌, List, [], ◌∷◌, Some, None, Option, Result, Ok, Err, codes, length, nat_le, if◌then◌else◌, IsTrue}
+use Rattle.std.specs.List.{list_all}
 use Rattle.serde_json.specs.Data.{Data}
-use Rattle.serde_json.specs.Find.{get}
 use Rattle.executors.specs.declared.scripts.Script.{Script}
+use Rattle.script_form.specs.Built.{is_built}
+use Rattle.executors.specs.Scripts.{alias_reads, are_faults_distinct, is_client, is_fault, is_name, is_turn, submits}
+use Rattle.script_form.specs.Casts.{cast}
+use Rattle.script_form.specs.declared.limits.LimitName.TheVariants.{Work}
+use Rattle.script_form.specs.declared.misfits.Misfit.{Misfit}
+use Rattle.script_form.specs.declared.misfits.Misfit.TheVariants as misfit
 use Rattle.script_form.specs.declared.refusals.ScriptRefusal.{ScriptRefusal}
-use Rattle.script_form.specs.declared.refusals.ScriptRefusal.TheVariants.{NotJson, BadShape, OutOfMemory}
-use Rattle.script_form.specs.declared.rules.Rule.TheVariants.{NotBuilt}
-use Rattle.script_form.specs.Parts.{◌>>=◌, data_of, has_only, whole_of, name_of}
-use Rattle.script_form.specs.Nodes.{nodes_of}
-use Rattle.script_form.specs.Queues.{queues_of}
-use Rattle.script_form.specs.Clients.{clients_of}
-
--- the members of a script, each of them required
-abbrev pub script_members : List (List ℕ)
-script_members = codes "version" ∷ codes "cluster" ∷ codes "nodes" ∷ codes "queues" ∷ codes "clients" ∷ []
+use Rattle.script_form.specs.declared.refusals.ScriptRefusal.TheVariants.{NotJson, BadShape, Limit, OutOfMemory}
+use Rattle.script_form.specs.declared.rules.Rule.TheVariants.{Version, NotBuilt}
+use Rattle.script_form.specs.Clients.{clients_of, closes}
+use Rattle.script_form.specs.Faults.{faults_of}
+use Rattle.script_form.specs.Misfits.{◌>>=◌, if_so, over}
+use Rattle.script_form.specs.Naming.{AreNamed}
+use Rattle.script_form.specs.Nodes.{AreNodes, nodes_of}
+use Rattle.script_form.specs.Parts.{data_of, check_members, required, optional, name_of, whole_of}
+use Rattle.script_form.specs.Queues.{queue_name, queues_of}
+use Rattle.script_form.specs.Turns.{schedule_of}
 
 -- version 1, and no other
-abbrev pub version_of : Data → Option ℕ
-version_of d = whole_of d >>= λ version. if version == 1 then Some version else None
+abbrev pub version_of : Data → Result ℕ Misfit
+version_of d = whole_of d >>= if_so Version (λ version. version == 1)
 
--- an object with exactly these members: version 1, a name, one node, some queues, and at most one client
-unfoldable pub first_form : Data → Option Script
-first_form d = if has_only script_members d then (do
-  version ← get (codes "version") d >>= version_of
-  cluster ← get (codes "cluster") d >>= name_of
-  nodes ← get (codes "nodes") d >>= nodes_of
-  queues ← get (codes "queues") d >>= queues_of
-  clients ← get (codes "clients") d >>= clients_of queues
-  Some (record { version = version; cluster = cluster; nodes = nodes; queues = queues; clients = clients; faults = []; schedule = [] })) else None
+-- the members of a script, of which the last two may be left out
+abbrev pub script_members : List (List ℕ)
+script_members = codes "version" ∷ codes "cluster" ∷ codes "nodes" ∷ codes "queues" ∷ codes "clients" ∷ codes "faults" ∷ codes "schedule" ∷ []
 
--- what isn't of the first form is refused as a whole
-abbrev pub script_or_refusal : Option Script → Result Script ScriptRefusal
-script_or_refusal None = Err (BadShape (codes "$") NotBuilt)
-script_or_refusal (Some script) = Ok script
+-- a script, its parts in this order
+unfoldable pub parts_of : Data → Result Script Misfit
+parts_of d =
+    check_members script_members d >>= λ _.
+    required (codes "version") version_of d >>= λ version.
+    required (codes "cluster") name_of d >>= λ cluster.
+    required (codes "nodes") nodes_of d >>= λ nodes.
+    required (codes "queues") queues_of d >>= λ queues.
+    required (codes "clients") (clients_of nodes queues) d >>= λ clients.
+    optional (codes "faults") [] (faults_of nodes) d >>= λ faults.
+    optional (codes "schedule") [] (schedule_of nodes (length clients)) d >>= λ schedule.
+    Ok (record { version = version; cluster = cluster; nodes = nodes; queues = queues; clients = clients; faults = faults; schedule = schedule })
+
+-- whether the states and reads of a script can be held
+abbrev pub is_workable : Script → Bool
+is_workable script =
+    nat_le (submits script * submits script * length script.nodes) 8000000 && nat_le (submits script * alias_reads script) 4000000
+
+abbrev pub check_work : Script → Result Script Misfit
+check_work script = if is_workable script then Ok script else over Work
+
+-- what isn't built yet is refused last of all
+abbrev pub check_built : Script → Result Script Misfit
+check_built script = if_so NotBuilt is_built script
+
+unfoldable pub whole_script : Data → Result Script Misfit
+whole_script d = parts_of d >>= check_work >>= check_built
+
+-- a place in the script as it is shown: `$` for the whole
+abbrev pub shown : List ℕ → List ℕ
+shown [] = codes "$"
+shown (b ∷ path) = b ∷ path
+
+abbrev pub refusal_of : Misfit → ScriptRefusal
+refusal_of (misfit.Bad path rule) = BadShape (shown path) rule
+refusal_of (misfit.Limit name) = Limit name
+refusal_of misfit.OutOfMemory = OutOfMemory
+
+abbrev pub script_or_refusal : Result Script Misfit → Result Script ScriptRefusal
+script_or_refusal (Ok script) = Ok script
+script_or_refusal (Err m) = Err (refusal_of m)
 
 -- what is no JSON is refused as that
 abbrev pub script_of_data : Option Data → Result Script ScriptRefusal
 script_of_data None = Err NotJson
-script_of_data (Some d) = script_or_refusal (first_form d)
+script_of_data (Some d) = script_or_refusal (whole_script d)
 
 -- the script that bytes spell, or why they spell none
 unfoldable pub script_of : List ℕ → Result Script ScriptRefusal
@@ -53,3 +90,20 @@ abbrev pub Gives : {X : Type 0} → Result X ScriptRefusal → Result X ScriptRe
 Gives (Ok x) read = read ≡ Ok x
 Gives (Err OutOfMemory) read = Unit {0}
 Gives (Err refusal) read = read ≡ Err refusal
+
+-- ---- what is so of the parts of a script that are read
+
+pub record AreParts (script : Script) : Type 0 where
+  pub version : script.version ≡ 1
+  pub cluster : IsTrue (is_name script.cluster)
+  pub nodes : AreNodes script.nodes
+  pub queues : AreNamed queue_name script.queues
+  pub queues_limit : length script.queues ≤ 64
+  pub clients_limit : length script.clients ≤ 32
+  pub clients : IsTrue (list_all (is_client (cast script.nodes script.queues [])) script.clients)
+  pub one_close : closes script.clients ≤ 1
+  pub faults_limit : length script.faults ≤ 1024
+  pub faults : IsTrue (list_all (is_fault (cast script.nodes [] [])) script.faults)
+  pub faults_distinct : IsTrue (are_faults_distinct script.faults)
+  pub schedule_limit : length script.schedule ≤ 65536
+  pub schedule : IsTrue (list_all (is_turn (cast script.nodes [] script.clients)) script.schedule)

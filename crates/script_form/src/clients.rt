@@ -1,117 +1,174 @@
-ghost use Rattle.std.specs.Prelude.{◌≡◌, ◌≤◌, IfOk, IfSome, IsTrue, length, slice_get};
+ghost use Rattle.std.specs.Prelude.{◌≡◌, ◌≤◌, ◌<◌, ◌&&◌, [], IfOk, IsTrue, length, map, not};
+ghost use Rattle.std.specs.List.{list_all, list_any};
 ghost use Rattle.serde_json.specs.View.{view};
-ghost use Rattle.script_form.specs.Parts.{Reads};
-ghost use Rattle.script_form.specs.Clients.{are_submitting, is_submitting, is_submission, clients_of, steps_of, step_of, task_of, queue_number, number_from, is_creating, is_creation};
+ghost use Rattle.executors.specs.Scripts.{are_steps, is_client, is_close, is_step};
+ghost use Rattle.script_form.specs.Casts.{cast};
+ghost use Rattle.script_form.specs.Clients.{IsClosedOnce, clients_of, closes, next_client, next_step, step_unless_closed, steps_of};
+ghost use Rattle.script_form.specs.Misfits.{Reads, at_place, within};
+ghost use Rattle.script_form.specs.Parts.{each};
 
-use crate::misfits::Misfit;
-use crate::parts::{check_word, count_in, has_known_members, member, text_in, values_of};
-use executors::{Kind, QueueSpec, Step, Task};
-use plain_data::{Items, Text};
+use crate::limits::LimitName;
+use crate::misfits::{Misfit, against, in_place};
+use crate::parts::values_up_to;
+use crate::rules::Rule;
+use crate::steps::step_in;
+use executors::{QueueSpec, ScriptNode, Step};
+use plain_data::Items;
 use serde_json::Value;
 use std::alloc::Global;
 
-/// The clients of a script: none, or one.
+/// The steps of the clients of a script.
 pub(crate) fn clients_in(
     alloc: Global,
-    queues: &Items<QueueSpec>,
+    nodes: &[ScriptNode],
+    queues: &[QueueSpec],
     value: &Value,
 ) -> Result<Items<Items<Step>>, Misfit>
     requires { length queues.now ≤ 64 }
-    ensures exact { Reads (λ c. c) result (clients_of queues.now (view value.now)) }
-    ensures valid { IfOk result (λ clients. IsTrue (are_submitting queues.now clients)) }
+    ensures exact { Reads (λ c. c) result (clients_of nodes.now queues.now (view value.now)) }
+    ensures limit { IfOk result (λ clients. length clients ≤ 32) }
+    ensures valid { IfOk result (λ clients. IsTrue (list_all (is_client (cast nodes.now queues.now [])) clients)) }
+    ensures one_close { IfOk result (λ clients. closes clients ≤ 1) }
 {
-    match values_of(value)? {
-        [] => Ok(Items::new(alloc)),
-        [client] => {
-            let mut clients = Items::new(alloc);
-            clients.push(steps_in(alloc, queues, client)?)?;
-            Ok(clients)
-        }
-        _ => Err(Misfit::NotOfTheForm),
-    }
+    let values = values_up_to(alloc, value, 32, LimitName::Clients)?;
+    each_client(alloc, nodes, queues, values)
 }
 
-/// The steps of a client: none, or one.
-fn steps_in(alloc: Global, queues: &Items<QueueSpec>, value: &Value) -> Result<Items<Step>, Misfit>
+/// The clients, one after the other.
+fn each_client(
+    alloc: Global,
+    nodes: &[ScriptNode],
+    queues: &[QueueSpec],
+    values: &[Value],
+) -> Result<Items<Items<Step>>, Misfit>
     requires { length queues.now ≤ 64 }
-    ensures exact { Reads (λ s. s) result (steps_of queues.now (view value.now)) }
-    ensures valid { IfOk result (λ steps. IsTrue (is_submitting queues.now steps)) }
+    ensures exact { Reads (λ c. c) result (each (next_client nodes.now queues.now) [] (map view values.now)) }
+    ensures count { IfOk result (λ clients. length clients ≡ length values.now) }
+    ensures valid { IfOk result (λ clients. IsTrue (list_all (is_client (cast nodes.now queues.now [])) clients)) }
+    ensures one_close { IfOk result (λ clients. closes clients ≤ 1) }
 {
-    match values_of(value)? {
-        [] => Ok(Items::new(alloc)),
-        [step] => {
-            let mut steps = Items::new(alloc);
-            steps.push(step_in(alloc, queues, step)?)?;
-            Ok(steps)
-        }
-        _ => Err(Misfit::NotOfTheForm),
+    let mut clients = Items::new(alloc);
+    let mut closed = false;
+    for value in values {
+        let steps = next_client_in(alloc, nodes, queues, clients.len(), closed, value)?;
+        closed = closed || does_close(steps.as_slice());
+        clients.push(steps)?;
     }
+    Ok(clients)
 }
 
-/// A step that submits a task.
-#[tactic(auto, unfolding(crate::specs::Clients::step_of))]
-fn step_in(alloc: Global, queues: &Items<QueueSpec>, value: &Value) -> Result<Step, Misfit>
+/// The steps of the client at a place, seen from the list of clients; `closed` says that an earlier client closes.
+fn next_client_in(
+    alloc: Global,
+    nodes: &[ScriptNode],
+    queues: &[QueueSpec],
+    place: usize,
+    closed: bool,
+    value: &Value,
+) -> Result<Items<Step>, Misfit>
     requires { length queues.now ≤ 64 }
-    ensures exact { Reads (λ s. s) result (step_of queues.now (view value.now)) }
-    ensures valid { IfOk result (λ step. IsTrue (is_submission queues.now step)) }
+    ensures exact { Reads (λ s. s) result (within (at_place place) (steps_of nodes.now queues.now closed (view value.now))) }
+    ensures valid { IfOk result (λ steps. IsTrue (is_client (cast nodes.now queues.now []) steps)) }
+    ensures close { IfOk result (IsClosedOnce closed) }
 {
-    if !has_known_members(value, &["do", "queue", "task"]) {
-        return Err(Misfit::NotOfTheForm);
-    }
-    check_word(member(value, "do")?, "submit")?;
-    let queue = queue_number_in(queues.as_slice(), member(value, "queue")?)?;
-    let task = task_in(alloc, member(value, "task")?)?;
-    Ok(Step::Submit {
-        queue,
-        task,
-        timeout: None,
-        ack: None,
-    })
+    in_place(alloc, place, steps_in(alloc, nodes, queues, closed, value))
 }
 
-/// The number of a queue that creates indices, by its name.
-fn queue_number_in(queues: &[QueueSpec], value: &Value) -> Result<u32, Misfit>
+/// The steps of a client.
+fn steps_in(
+    alloc: Global,
+    nodes: &[ScriptNode],
+    queues: &[QueueSpec],
+    closed: bool,
+    value: &Value,
+) -> Result<Items<Step>, Misfit>
     requires { length queues.now ≤ 64 }
-    ensures exact { Reads (λ n. n) result (queue_number queues.now (view value.now)) }
-    ensures valid { IfOk result (λ n. IsTrue (is_creating (slice_get queues.now n))) }
+    ensures exact { Reads (λ s. s) result (steps_of nodes.now queues.now closed (view value.now)) }
+    ensures valid { IfOk result (λ steps. IsTrue (is_client (cast nodes.now queues.now []) steps)) }
+    ensures close { IfOk result (IsClosedOnce closed) }
 {
-    match number_of_queue(queues, text_in(value)?) {
-        None => Err(Misfit::NotOfTheForm),
-        Some(number) => Ok(number),
+    let values = values_up_to(alloc, value, 4096, LimitName::Steps)?;
+    each_step(alloc, nodes, queues, closed, values)
+}
+
+/// The steps, one after the other.
+fn each_step(
+    alloc: Global,
+    nodes: &[ScriptNode],
+    queues: &[QueueSpec],
+    closed: bool,
+    values: &[Value],
+) -> Result<Items<Step>, Misfit>
+    requires queues { length queues.now ≤ 64 }
+    requires few { length values.now ≤ 4096 }
+    ensures exact { Reads (λ s. s) result (each (next_step nodes.now queues.now closed) [] (map view values.now)) }
+    ensures count { IfOk result (λ steps. length steps ≡ length values.now) }
+    ensures valid { IfOk result (λ steps. IsTrue (are_steps (cast nodes.now queues.now []) [] steps)) }
+    ensures close { IfOk result (IsClosedOnce closed) }
+{
+    let mut steps = Items::new(alloc);
+    let mut has_closed = closed;
+    for value in values {
+        let step = next_step_in(alloc, nodes, queues, has_closed, &steps, value)?;
+        has_closed = has_closed || is_closing(&step);
+        steps.push(step)?;
+    }
+    Ok(steps)
+}
+
+/// The step that stands after those before it, seen from their list; `has_closed` says that an earlier one closes,
+/// of this client or of another.
+fn next_step_in(
+    alloc: Global,
+    nodes: &[ScriptNode],
+    queues: &[QueueSpec],
+    has_closed: bool,
+    before: &Items<Step>,
+    value: &Value,
+) -> Result<Step, Misfit>
+    requires queues { length queues.now ≤ 64 }
+    requires few { length before.now < 4096 }
+    ensures exact { Reads (λ s. s) result (within (at_place (length before.now)) (step_unless_closed nodes.now queues.now has_closed before.now (view value.now))) }
+    ensures valid { IfOk result (λ step. IsTrue (is_step (cast nodes.now queues.now []) before.now step)) }
+    ensures close { IfOk result (λ step. IsTrue (not (has_closed && is_close step))) }
+{
+    in_place(
+        alloc,
+        before.len(),
+        fit_step_in(alloc, nodes, queues, has_closed, before.as_slice(), value),
+    )
+}
+
+fn fit_step_in(
+    alloc: Global,
+    nodes: &[ScriptNode],
+    queues: &[QueueSpec],
+    has_closed: bool,
+    before: &[Step],
+    value: &Value,
+) -> Result<Step, Misfit>
+    requires queues { length queues.now ≤ 64 }
+    requires few { length before.now < 4096 }
+    ensures exact { Reads (λ s. s) result (step_unless_closed nodes.now queues.now has_closed before.now (view value.now)) }
+    ensures valid { IfOk result (λ step. IsTrue (is_step (cast nodes.now queues.now []) before.now step)) }
+    ensures close { IfOk result (λ step. IsTrue (not (has_closed && is_close step))) }
+{
+    let step = step_in(alloc, nodes, queues, before, value)?;
+    if has_closed && is_closing(&step) {
+        Err(against(alloc, Rule::Close))
+    } else {
+        Ok(step)
     }
 }
 
-/// The place in the list of the queue of this name, if it creates indices.
-fn number_of_queue(queues: &[QueueSpec], name: &str) -> Option<u32>
-    requires { length queues.now ≤ 64 }
-    ensures exact { result ≡ number_from 0 queues.now name.now }
-    ensures valid { IfSome result (λ n. IsTrue (is_creating (slice_get queues.now n))) }
+fn is_closing(step: &Step) -> bool
+    ensures { result ≡ is_close step.now }
 {
-    let mut number = 0;
-    for queue in queues {
-        if name == queue.name.as_str() && queue.executor == Kind::CreateIndex {
-            return Some(number);
-        }
-        number += 1;
-    }
-    None
+    matches!(step, Step::Close)
 }
 
-/// A task that creates an index.
-#[tactic(auto, unfolding(crate::specs::Clients::task_of))]
-fn task_in(alloc: Global, value: &Value) -> Result<Task, Misfit>
-    ensures exact { Reads (λ t. t) result (task_of (view value.now)) }
-    ensures valid { IfOk result (λ task. IsTrue (is_creation task)) }
+fn does_close(steps: &[Step]) -> bool
+    ensures { result ≡ list_any is_close steps.now }
 {
-    if !has_known_members(value, &["index", "shards", "replicas"]) {
-        return Err(Misfit::NotOfTheForm);
-    }
-    let index = Text::from_str(alloc, text_in(member(value, "index")?)?)?;
-    let shards = count_in(value, "shards")?;
-    let replicas = count_in(value, "replicas")?;
-    Ok(Task::CreateIndex {
-        index,
-        shards,
-        replicas,
-    })
+    steps.iter().any(|step| is_closing(step))
 }

@@ -1,15 +1,23 @@
 //! Reading a script from its JSON.
 #![tactic(auto)]
 
+mod acks;
+mod building;
 mod clients;
+mod faults;
 mod limits;
 mod misfits;
 mod nodes;
 mod parts;
+mod predicates;
 mod queues;
 mod reading;
 mod refusals;
 mod rules;
+mod steps;
+mod tasks;
+mod turns;
+mod working;
 
 pub use limits::LimitName;
 pub use reading::read_script;

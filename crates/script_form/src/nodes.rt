@@ -1,42 +1,144 @@
-ghost use Rattle.std.specs.Prelude.{◌≡◌, IfOk, IsTrue};
+ghost use Rattle.std.specs.Prelude.{◌≡◌, ◌≤◌, [], IfOk, IsTrue, length, map};
+ghost use Rattle.std.specs.Option.{option_copied};
 ghost use Rattle.serde_json.specs.View.{view};
-ghost use Rattle.script_form.specs.Parts.{Reads};
-ghost use Rattle.script_form.specs.Nodes.{is_one_master, is_master_node, nodes_of, node_of};
+ghost use Rattle.executors.specs.Scripts.{is_name, is_node, is_node_so};
+ghost use Rattle.script_form.specs.Casts.{cast};
+ghost use Rattle.script_form.specs.Misfits.{Reads, at_place, within};
+ghost use Rattle.script_form.specs.Naming.{AreNamed, IsNewTo};
+ghost use Rattle.script_form.specs.Parts.{each};
+ghost use Rattle.script_form.specs.Nodes.{AreNodes, find_node, fit_node, is_fit_first, is_led, is_node_name, next_node, node_name, node_named, node_of, nodes_of};
 
-use crate::misfits::Misfit;
-use crate::parts::{has_known_members, member, name_in, values_of};
+use crate::limits::LimitName;
+use crate::misfits::{Misfit, against, in_member, in_place};
+use crate::parts::{check_members, flag_or, member, name_in, text_in, values_up_to};
+use crate::rules::Rule;
 use executors::ScriptNode;
 use plain_data::Items;
 use serde_json::Value;
 use std::alloc::Global;
 
-/// The nodes of a script: one, which is the master.
+/// The nodes of a script.
+#[tactic(auto, using(crate::proofs::Names::led_nodes))]
 pub(crate) fn nodes_in(alloc: Global, value: &Value) -> Result<Items<ScriptNode>, Misfit>
     ensures exact { Reads (λ n. n) result (nodes_of (view value.now)) }
-    ensures valid { IfOk result (λ nodes. IsTrue (is_one_master nodes)) }
+    ensures valid { IfOk result AreNodes }
 {
-    match values_of(value)? {
-        [node] => {
-            let mut nodes = Items::new(alloc);
-            nodes.push(node_in(alloc, node)?)?;
-            Ok(nodes)
-        }
-        _ => Err(Misfit::NotOfTheForm),
+    let values = values_up_to(alloc, value, 30, LimitName::Nodes)?;
+    if values.is_empty() {
+        return Err(against(alloc, Rule::Range));
     }
+    each_node(alloc, values)
+}
+
+/// The nodes, one after the other.
+fn each_node(alloc: Global, values: &[Value]) -> Result<Items<ScriptNode>, Misfit>
+    ensures exact { Reads (λ n. n) result (each next_node [] (map view values.now)) }
+    ensures count { IfOk result (λ nodes. length nodes ≡ length values.now) }
+    ensures named { IfOk result (AreNamed node_name) }
+    ensures led { IfOk result (λ nodes. IsTrue (is_led nodes)) }
+{
+    let mut nodes = Items::new(alloc);
+    for value in values {
+        let node = next_node_in(alloc, &nodes, value)?;
+        nodes.push(node)?;
+    }
+    Ok(nodes)
+}
+
+/// The node that stands after those before it, seen from their list.
+fn next_node_in(
+    alloc: Global,
+    before: &Items<ScriptNode>,
+    value: &Value,
+) -> Result<ScriptNode, Misfit>
+    ensures exact { Reads (λ n. n) result (within (at_place (length before.now)) (next_node before.now (view value.now))) }
+    ensures new { IfOk result (IsNewTo node_name before.now) }
+    ensures fit { IfOk result (λ node. IsTrue (is_fit_first before.now node)) }
+{
+    in_place(
+        alloc,
+        before.len(),
+        fit_node_in(alloc, before.as_slice(), value),
+    )
+}
+
+fn fit_node_in(alloc: Global, before: &[ScriptNode], value: &Value) -> Result<ScriptNode, Misfit>
+    ensures exact { Reads (λ n. n) result (next_node before.now (view value.now)) }
+    ensures new { IfOk result (IsNewTo node_name before.now) }
+    ensures fit { IfOk result (λ node. IsTrue (is_fit_first before.now node)) }
+{
+    let node = node_in(alloc, value)?;
+    check_node(alloc, before, node)
 }
 
 #[tactic(auto, unfolding(crate::specs::Nodes::node_of))]
 fn node_in(alloc: Global, value: &Value) -> Result<ScriptNode, Misfit>
     ensures exact { Reads (λ n. n) result (node_of (view value.now)) }
-    ensures valid { IfOk result (λ node. IsTrue (is_master_node node)) }
+    ensures valid { IfOk result (λ node. IsTrue (is_name node.name)) }
 {
-    if !has_known_members(value, &["name"]) {
-        return Err(Misfit::NotOfTheForm);
-    }
-    let name = name_in(alloc, member(value, "name")?)?;
+    check_members(alloc, value, &["name", "eligible", "member"])?;
+    let name = in_member(alloc, "name", name_in(alloc, member(alloc, value, "name")?))?;
+    let eligible = flag_or(alloc, value, "eligible", true)?;
+    let is_member = flag_or(alloc, value, "member", true)?;
     Ok(ScriptNode {
         name,
-        eligible: true,
-        member: true,
+        eligible,
+        member: is_member,
     })
+}
+
+/// Asks that a node have a name of its own, and that the first be fit to be the master.
+fn check_node(alloc: Global, before: &[ScriptNode], node: ScriptNode) -> Result<ScriptNode, Misfit>
+    requires { IsTrue (is_name node.name) }
+    ensures exact { Reads (λ n. n) result (fit_node before.now node) }
+    ensures new { IfOk result (IsNewTo node_name before.now) }
+    ensures fit { IfOk result (λ node. IsTrue (is_fit_first before.now node)) }
+{
+    if before.is_empty() {
+        if node.eligible && node.member {
+            Ok(node)
+        } else {
+            Err(against(alloc, Rule::Master))
+        }
+    } else if has_node(before, node.name.as_str()) {
+        in_member(alloc, "name", Err(against(alloc, Rule::Twice)))
+    } else {
+        Ok(node)
+    }
+}
+
+fn has_node(nodes: &[ScriptNode], name: &str) -> bool
+    ensures { result ≡ is_node_name nodes.now name.now }
+{
+    nodes.iter().any(|node| name == node.name.as_str())
+}
+
+/// The node that a text names.
+#[tactic(auto, using(crate::proofs::Names::is_node_found, crate::proofs::Names::is_node_so_found))]
+pub(crate) fn node_named_in<'a>(
+    alloc: Global,
+    nodes: &'a [ScriptNode],
+    value: &Value,
+) -> Result<&'a ScriptNode, Misfit>
+    ensures exact { Reads (λ n. n.now) result (node_named nodes.now (view value.now)) }
+    ensures known { IfOk result (λ node. IsTrue (is_node (cast nodes.now [] []) node.now.name)) }
+    ensures so { IfOk result (λ node. IsTrue (is_node_so (cast nodes.now [] []) node.now.name node.now.eligible)) }
+{
+    let text = text_in(alloc, value)?;
+    match find(nodes, text.as_bytes()) {
+        None => Err(against(alloc, Rule::Reference)),
+        Some(node) => Ok(node),
+    }
+}
+
+/// The node of a name.
+pub(crate) fn find<'a>(nodes: &'a [ScriptNode], name: &[u8]) -> Option<&'a ScriptNode>
+    ensures { option_copied result ≡ find_node nodes.now name.now }
+{
+    for node in nodes {
+        if name == node.name.as_bytes() {
+            return Some(node);
+        }
+    }
+    None
 }

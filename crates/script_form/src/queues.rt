@@ -1,58 +1,83 @@
-ghost use Rattle.std.specs.Prelude.{◌≡◌, ◌≤◌, [], IfOk, length, map};
+ghost use Rattle.std.specs.Prelude.{◌≡◌, ◌≤◌, [], IfOk, IfSome, IsTrue, Some, codes, length, map};
 ghost use Rattle.serde_json.specs.View.{view};
-ghost use Rattle.script_form.specs.Parts.{Reads, each};
-ghost use Rattle.script_form.specs.Queues.{AreNamed, IsNextQueue, queues_of, next_queue, kind_of, priority_of, kind_named, priority_named, is_name_taken};
+ghost use Rattle.executors.specs.Scripts.{is_name};
+ghost use Rattle.script_form.specs.Misfits.{Reads, at_place, within};
+ghost use Rattle.script_form.specs.Naming.{AreNamed, IsNewTo};
+ghost use Rattle.script_form.specs.Parts.{each, optional, word_of};
+ghost use Rattle.script_form.specs.Queues.{find_queue, fit_queue, is_queue_name, kind_at, kind_named, next_queue, priority_named, queue_name, queue_named, queue_of, queues_of};
+ghost use Rattle.executors.specs.declared.queues.Priority.TheVariants.{Normal};
 
-use crate::misfits::Misfit;
-use crate::parts::{has_known_members, member, name_in, text_in, values_of};
+use crate::limits::LimitName;
+use crate::misfits::{Misfit, against, in_member, in_place};
+use crate::parts::{check_members, member, name_in, text_in, values_up_to};
+use crate::rules::Rule;
 use executors::{Kind, Priority, QueueSpec};
 use plain_data::Items;
 use serde_json::Value;
 use std::alloc::Global;
 
 /// The queues of a script.
-#[tactic(auto, unfolding(crate::specs::Queues::queues_of))]
 pub(crate) fn queues_in(alloc: Global, value: &Value) -> Result<Items<QueueSpec>, Misfit>
     ensures exact { Reads (λ q. q) result (queues_of (view value.now)) }
-    ensures named { IfOk result AreNamed }
+    ensures named { IfOk result (AreNamed queue_name) }
     ensures limit { IfOk result (λ queues. length queues ≤ 64) }
 {
-    let values = values_of(value)?;
-    if values.len() > 64 {
-        return Err(Misfit::NotOfTheForm);
-    }
+    let values = values_up_to(alloc, value, 64, LimitName::Queues)?;
     each_queue(alloc, values)
 }
 
 /// The queues, one after the other.
 fn each_queue(alloc: Global, values: &[Value]) -> Result<Items<QueueSpec>, Misfit>
     ensures exact { Reads (λ q. q) result (each next_queue [] (map view values.now)) }
-    ensures named { IfOk result AreNamed }
+    ensures named { IfOk result (AreNamed queue_name) }
     ensures count { IfOk result (λ queues. length queues ≡ length values.now) }
 {
     let mut queues = Items::new(alloc);
     for value in values {
-        let queue = queue_in(alloc, &queues, value)?;
+        let queue = next_queue_in(alloc, &queues, value)?;
         queues.push(queue)?;
     }
     Ok(queues)
 }
 
-/// The queue that stands after those before it.
-#[tactic(auto, unfolding(crate::specs::Queues::next_queue))]
-fn queue_in(alloc: Global, before: &Items<QueueSpec>, value: &Value) -> Result<QueueSpec, Misfit>
-    ensures exact { Reads (λ q. q) result (next_queue before.now (view value.now)) }
-    ensures valid { IfOk result (IsNextQueue before.now) }
+/// The queue that stands after those before it, seen from their list.
+fn next_queue_in(
+    alloc: Global,
+    before: &Items<QueueSpec>,
+    value: &Value,
+) -> Result<QueueSpec, Misfit>
+    ensures exact { Reads (λ q. q) result (within (at_place (length before.now)) (next_queue before.now (view value.now))) }
+    ensures new { IfOk result (IsNewTo queue_name before.now) }
 {
-    if !has_known_members(value, &["name", "executor", "priority"]) {
-        return Err(Misfit::NotOfTheForm);
+    in_place(
+        alloc,
+        before.len(),
+        fit_queue_in(alloc, before.as_slice(), value),
+    )
+}
+
+fn fit_queue_in(alloc: Global, before: &[QueueSpec], value: &Value) -> Result<QueueSpec, Misfit>
+    ensures exact { Reads (λ q. q) result (next_queue before.now (view value.now)) }
+    ensures new { IfOk result (IsNewTo queue_name before.now) }
+{
+    let queue = queue_in(alloc, value)?;
+    if has_queue(before, queue.name.as_str()) {
+        in_member(alloc, "name", Err(against(alloc, Rule::Twice)))
+    } else {
+        Ok(queue)
     }
-    let name = name_in(alloc, member(value, "name")?)?;
-    if has_queue(before.as_slice(), name.as_str()) {
-        return Err(Misfit::NotOfTheForm);
-    }
-    let executor = kind_in(member(value, "executor")?)?;
-    let priority = priority_in(value)?;
+}
+
+#[tactic(auto, unfolding(crate::specs::Queues::queue_of))]
+fn queue_in(alloc: Global, value: &Value) -> Result<QueueSpec, Misfit>
+    ensures exact { Reads (λ q. q) result (queue_of (view value.now)) }
+    ensures valid { IfOk result (λ queue. IsTrue (is_name queue.name)) }
+{
+    check_members(alloc, value, &["name", "executor", "priority"])?;
+    let name = in_member(alloc, "name", name_in(alloc, member(alloc, value, "name")?))?;
+    let executor = member(alloc, value, "executor")?;
+    let executor = in_member(alloc, "executor", kind_in(alloc, executor))?;
+    let priority = priority_or_normal(alloc, value)?;
     Ok(QueueSpec {
         name,
         executor,
@@ -61,16 +86,16 @@ fn queue_in(alloc: Global, before: &Items<QueueSpec>, value: &Value) -> Result<Q
 }
 
 fn has_queue(queues: &[QueueSpec], name: &str) -> bool
-    ensures { result ≡ is_name_taken queues.now name.now }
+    ensures { result ≡ is_queue_name queues.now name.now }
 {
     queues.iter().any(|queue| name == queue.name.as_str())
 }
 
-fn kind_in(value: &Value) -> Result<Kind, Misfit>
-    ensures { Reads (λ k. k) result (kind_of (view value.now)) }
+fn kind_in(alloc: Global, value: &Value) -> Result<Kind, Misfit>
+    ensures { Reads (λ k. k) result (word_of kind_named (view value.now)) }
 {
-    match kind_of_word(text_in(value)?) {
-        None => Err(Misfit::NotOfTheForm),
+    match kind_of_word(text_in(alloc, value)?) {
+        None => Err(against(alloc, Rule::Value)),
         Some(kind) => Ok(kind),
     }
 }
@@ -93,15 +118,21 @@ fn kind_of_word(word: &str) -> Option<Kind>
     }
 }
 
-fn priority_in(value: &Value) -> Result<Priority, Misfit>
-    ensures { Reads (λ p. p) result (priority_of (view value.now)) }
+fn priority_or_normal(alloc: Global, value: &Value) -> Result<Priority, Misfit>
+    ensures { Reads (λ p. p) result (optional (codes "priority") Normal (word_of priority_named) (view value.now)) }
 {
     match value.get("priority") {
         None => Ok(Priority::Normal),
-        Some(member) => match priority_of_word(text_in(member)?) {
-            None => Err(Misfit::NotOfTheForm),
-            Some(priority) => Ok(priority),
-        },
+        Some(member) => in_member(alloc, "priority", priority_in(alloc, member)),
+    }
+}
+
+fn priority_in(alloc: Global, value: &Value) -> Result<Priority, Misfit>
+    ensures { Reads (λ p. p) result (word_of priority_named (view value.now)) }
+{
+    match priority_of_word(text_in(alloc, value)?) {
+        None => Err(against(alloc, Rule::Value)),
+        Some(priority) => Ok(priority),
     }
 }
 
@@ -118,4 +149,36 @@ fn priority_of_word(word: &str) -> Option<Priority>
         "LANGUID" => Some(Priority::Languid),
         _ => None,
     }
+}
+
+/// The number and the executor of the queue that a text names.
+pub(crate) fn queue_named_in(
+    alloc: Global,
+    queues: &[QueueSpec],
+    value: &Value,
+) -> Result<(u32, Kind), Misfit>
+    requires { length queues.now ≤ 64 }
+    ensures exact { Reads (λ q. q) result (queue_named queues.now (view value.now)) }
+    ensures valid { IfOk result (λ q. kind_at queues.now q.0 ≡ Some q.1) }
+{
+    match find(queues, text_in(alloc, value)?) {
+        None => Err(against(alloc, Rule::Reference)),
+        Some(found) => Ok(found),
+    }
+}
+
+/// The place in the list of the queue of a name, and its executor.
+fn find(queues: &[QueueSpec], name: &str) -> Option<(u32, Kind)>
+    requires { length queues.now ≤ 64 }
+    ensures exact { result ≡ find_queue 0 queues.now name.now }
+    ensures valid { IfSome result (λ q. kind_at queues.now q.0 ≡ Some q.1) }
+{
+    let mut number = 0;
+    for queue in queues {
+        if name == queue.name.as_str() {
+            return Some((number, queue.executor));
+        }
+        number += 1;
+    }
+    None
 }

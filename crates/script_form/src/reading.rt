@@ -1,26 +1,37 @@
-ghost use Rattle.std.specs.Prelude.{◌≡◌, List, [], ℕ, IfOk, IsTrue, map};
+ghost use Rattle.std.specs.Prelude.{◌≡◌, ◌≤◌, [], IfOk, IsTrue, codes, length};
+ghost use Rattle.std.specs.List.{list_all};
 ghost use Rattle.serde_json.specs.View.{view};
-ghost use Rattle.executors.specs.Scripts.{IsScript};
-ghost use Rattle.executors.specs.Built.{IsBuilt};
-ghost use Rattle.script_form.specs.Parts.{Reads};
-ghost use Rattle.script_form.specs.Reading.{Gives, IsRefusal, first_form, script_of, version_of};
+ghost use Rattle.executors.specs.Scripts.{IsScript, are_faults_distinct, is_fault, is_turn};
+ghost use Rattle.script_form.specs.Built.{IsBuilt};
+ghost use Rattle.script_form.specs.Casts.{cast};
+ghost use Rattle.script_form.specs.Faults.{faults_of};
+ghost use Rattle.script_form.specs.Misfits.{Reads};
+ghost use Rattle.script_form.specs.Parts.{optional};
+ghost use Rattle.script_form.specs.Reading.{AreParts, Gives, IsRefusal, parts_of, refusal_of, script_of, version_of, whole_script};
+ghost use Rattle.script_form.specs.Turns.{schedule_of};
 ghost use Rattle.script_form.specs.declared.refusals.ScriptRefusal.TheVariants.{BadShape};
 
+use crate::building::is_all_built;
 use crate::clients::clients_in;
-use crate::misfits::Misfit;
+use crate::faults::faults_in;
+use crate::limits::LimitName;
+use crate::misfits::{Misfit, against, in_member, too_many};
 use crate::nodes::nodes_in;
-use crate::parts::{has_known_members, member, name_in, parse, whole_in};
+use crate::parts::{check_members, member, name_in, parse, whole_in};
 use crate::queues::queues_in;
 use crate::refusals::ScriptRefusal;
 use crate::rules::Rule;
-use executors::Script;
+use crate::turns::schedule_in;
+use crate::working::is_workable;
+use executors::{Fault, Script, ScriptNode, ScriptTurn, Step};
 use plain_data::{Items, Text};
 use serde_json::Value;
 use std::alloc::Global;
 
-/// Reads a script of the first form: one node, at most 64 queues, and at most one client, which submits at most one
-/// task that creates an index. Bytes that aren't JSON are refused as such, and JSON of another form as a bad shape
-/// at `$`. Want of memory says nothing of the bytes.
+/// Reads a script. Bytes that aren't JSON are refused as such. Of other bytes the first thing that is wrong is named,
+/// in the order of the script's form: a value at its path that breaks a rule, or a limit that is passed. Last of all
+/// a script is refused at `$` as not built that holds something that isn't performed yet. Want of memory says nothing
+/// of the bytes.
 #[tactic(auto, unfolding(crate::specs::Reading::script_of))]
 pub fn read_script(alloc: Global, bytes: &[u8]) -> Result<Script, ScriptRefusal>
     ensures reads { Gives result (script_of bytes.now) }
@@ -34,56 +45,137 @@ pub fn read_script(alloc: Global, bytes: &[u8]) -> Result<Script, ScriptRefusal>
     };
     match script_in(alloc, &value) {
         Ok(script) => Ok(script),
-        Err(Misfit::NotOfTheForm) => Err(bad_shape(alloc, "$", Rule::NotBuilt)),
-        Err(Misfit::OutOfMemory) => Err(ScriptRefusal::OutOfMemory),
+        Err(misfit) => Err(refuse(alloc, misfit)),
     }
 }
 
-/// The refusal of what stands at a path.
-fn bad_shape(alloc: Global, path: &str, rule: Rule) -> ScriptRefusal
-    ensures { IsRefusal result (BadShape path.now rule) }
+/// The refusal of a script in which something doesn't fit.
+fn refuse(alloc: Global, misfit: Misfit) -> ScriptRefusal
+    ensures { IsRefusal result (refusal_of misfit) }
 {
-    match Text::from_str(alloc, path) {
+    match misfit {
+        Misfit::OutOfMemory => ScriptRefusal::OutOfMemory,
+        Misfit::Limit { name } => ScriptRefusal::Limit { name },
+        Misfit::Bad { path, rule } => {
+            if path.as_bytes().is_empty() {
+                bad_whole(alloc, rule)
+            } else {
+                ScriptRefusal::BadShape { path, rule }
+            }
+        }
+    }
+}
+
+/// The refusal of the whole script.
+fn bad_whole(alloc: Global, rule: Rule) -> ScriptRefusal
+    ensures { IsRefusal result (BadShape (codes "$") rule) }
+{
+    match Text::from_str(alloc, "$") {
         Ok(path) => ScriptRefusal::BadShape { path, rule },
         Err(_) => ScriptRefusal::OutOfMemory,
     }
 }
 
-/// The script of the first form that a value is.
-#[tactic(auto, unfolding(crate::specs::Reading::first_form), using(crate::proofs::Valid::script_is_built))]
+/// The script that a value is.
+#[tactic(auto, unfolding(crate::specs::Reading::whole_script), using(crate::proofs::Valid::script_is_valid))]
 fn script_in(alloc: Global, value: &Value) -> Result<Script, Misfit>
-    ensures exact { Reads (λ s. s) result (first_form (view value.now)) }
+    ensures exact { Reads (λ s. s) result (whole_script (view value.now)) }
     ensures valid { IfOk result IsScript }
     ensures built { IfOk result IsBuilt }
 {
-    if !has_known_members(value, &["version", "cluster", "nodes", "queues", "clients"]) {
-        return Err(Misfit::NotOfTheForm);
+    let script = parts_in(alloc, value)?;
+    if !is_workable(&script) {
+        return Err(too_many(LimitName::Work));
     }
-    let version = version_in(member(value, "version")?)?;
-    let cluster = name_in(alloc, member(value, "cluster")?)?;
-    let nodes = nodes_in(alloc, member(value, "nodes")?)?;
-    let queues = queues_in(alloc, member(value, "queues")?)?;
-    let clients = clients_in(alloc, &queues, member(value, "clients")?)?;
+    if !is_all_built(&script) {
+        return Err(against(alloc, Rule::NotBuilt));
+    }
+    Ok(script)
+}
+
+/// A script, part by part.
+#[tactic(auto, unfolding(crate::specs::Reading::parts_of))]
+fn parts_in(alloc: Global, value: &Value) -> Result<Script, Misfit>
+    ensures exact { Reads (λ s. s) result (parts_of (view value.now)) }
+    ensures valid { IfOk result AreParts }
+{
+    check_members(
+        alloc,
+        value,
+        &[
+            "version", "cluster", "nodes", "queues", "clients", "faults", "schedule",
+        ],
+    )?;
+    let version = member(alloc, value, "version")?;
+    let version = in_member(alloc, "version", version_in(alloc, version))?;
+    let cluster = member(alloc, value, "cluster")?;
+    let cluster = in_member(alloc, "cluster", name_in(alloc, cluster))?;
+    let nodes = member(alloc, value, "nodes")?;
+    let nodes = in_member(alloc, "nodes", nodes_in(alloc, nodes))?;
+    let queues = member(alloc, value, "queues")?;
+    let queues = in_member(alloc, "queues", queues_in(alloc, queues))?;
+    let clients = member(alloc, value, "clients")?;
+    let clients = clients_in(alloc, nodes.as_slice(), queues.as_slice(), clients);
+    let clients = in_member(alloc, "clients", clients)?;
+    let faults = faults_or_none(alloc, nodes.as_slice(), value)?;
+    let schedule = schedule_or_none(alloc, nodes.as_slice(), clients.as_slice(), value)?;
     Ok(Script {
         version,
         cluster,
         nodes,
         queues,
         clients,
-        faults: Items::new(alloc),
-        schedule: Items::new(alloc),
+        faults,
+        schedule,
     })
 }
 
 /// The version of a script's form.
-fn version_in(value: &Value) -> Result<u64, Misfit>
+fn version_in(alloc: Global, value: &Value) -> Result<u64, Misfit>
     ensures exact { Reads (λ n. n) result (version_of (view value.now)) }
     ensures valid { IfOk result (λ version. version ≡ 1) }
 {
-    let version = whole_in(value)?;
+    let version = whole_in(alloc, value)?;
     if version == 1 {
         Ok(version)
     } else {
-        Err(Misfit::NotOfTheForm)
+        Err(against(alloc, Rule::Version))
+    }
+}
+
+fn faults_or_none(
+    alloc: Global,
+    nodes: &[ScriptNode],
+    value: &Value,
+) -> Result<Items<Fault>, Misfit>
+    ensures exact { Reads (λ f. f) result (optional (codes "faults") [] (faults_of nodes.now) (view value.now)) }
+    ensures limit { IfOk result (λ faults. length faults ≤ 1024) }
+    ensures valid { IfOk result (λ faults. IsTrue (list_all (is_fault (cast nodes.now [] [])) faults)) }
+    ensures distinct { IfOk result (λ faults. IsTrue (are_faults_distinct faults)) }
+{
+    match value.get("faults") {
+        None => Ok(Items::new(alloc)),
+        Some(member) => in_member(alloc, "faults", faults_in(alloc, nodes, member)),
+    }
+}
+
+fn schedule_or_none(
+    alloc: Global,
+    nodes: &[ScriptNode],
+    clients: &[Items<Step>],
+    value: &Value,
+) -> Result<Items<ScriptTurn>, Misfit>
+    requires { length clients.now ≤ 32 }
+    ensures exact { Reads (λ t. t) result (optional (codes "schedule") [] (schedule_of nodes.now (length clients.now)) (view value.now)) }
+    ensures limit { IfOk result (λ turns. length turns ≤ 65536) }
+    ensures valid { IfOk result (λ turns. IsTrue (list_all (is_turn (cast nodes.now [] clients.now)) turns)) }
+{
+    match value.get("schedule") {
+        None => Ok(Items::new(alloc)),
+        Some(member) => in_member(
+            alloc,
+            "schedule",
+            schedule_in(alloc, nodes, clients, member),
+        ),
     }
 }

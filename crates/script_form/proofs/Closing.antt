@@ -1,0 +1,74 @@
+-- At most one step of a script closes, and steps stay valid as one more is added.
+use Rattle.std.proofs.Common.{◌≡◌, ℕ, ◌+◌, ◌≤◌, true, false, List, [], ◌∷◌, ◌++◌, refl, arith}
+use Rattle.std.specs.Prelude.{Bool, IsTrue, not, ◌&&◌, ◌||◌, count_by, flat_map, if◌then◌else◌}
+use Rattle.std.specs.List.{list_all, list_any}
+use Rattle.std.proofs.lemmas.Bool.{and_parts}
+use Rattle.std.proofs.lemmas.Grind.{common_steps}
+use Rattle.executors.specs.declared.scripts.Script.{Script}
+use Rattle.executors.specs.declared.steps.Step.{Step}
+use Rattle.executors.specs.Scripts.{are_steps, is_close, is_step}
+use Rattle.script_form.specs.Clients.{IsClosedOnce, closes, do_close, one_if_so}
+use Rattle.script_form.proofs.Casts.{and_both}
+
+append_nil : (before : List Step) → before ++ [] ≡ before
+append_nil [] = refl
+append_nil (first ∷ before) = grind (arith, common_steps, append_nil before)
+
+append_more : (before : List Step) (first : Step) (steps : List Step) → (before ++ first ∷ []) ++ steps ≡ before ++ first ∷ steps
+append_more [] first steps = refl
+append_more (b ∷ before) first steps = grind (arith, common_steps, append_more before first steps)
+
+are_steps_after : (script : Script) (before steps : List Step) (next : Step) → are_steps script before steps ≡ true → is_step script (before ++ steps) next ≡ true → are_steps script before (steps ++ next ∷ []) ≡ true
+are_steps_after script before [] next valid one = and_both (rw (append_nil before) at one) refl
+are_steps_after script before (first ∷ steps) next valid one =
+    let parts = and_parts _ _ valid in
+    and_both parts.0 (are_steps_after script (before ++ first ∷ []) steps next parts.1 (rw (append_more before first steps) one))
+
+pub are_steps_push : (script : Script) (steps : List Step) (next : Step) → are_steps script [] steps ≡ true → is_step script steps next ≡ true → are_steps script [] (steps ++ next ∷ []) ≡ true
+are_steps_push script steps next valid one = are_steps_after script [] steps next valid one
+
+-- ---- steps that close
+
+none_counted : (steps : List Step) → list_any is_close steps ≡ false → count_by is_close steps ≡ 0
+none_counted [] none = refl
+none_counted (first ∷ steps) none = grind (arith, common_steps, none_counted steps)
+
+count_push : (steps : List Step) (next : Step) → count_by is_close (steps ++ next ∷ []) ≡ count_by is_close steps + one_if_so (is_close next)
+count_push [] next = grind (arith, common_steps)
+count_push (first ∷ steps) next = grind (arith, common_steps, count_push steps next)
+
+count_append : (steps more : List Step) → count_by is_close (steps ++ more) ≡ count_by is_close steps + count_by is_close more
+count_append [] more = grind (arith, common_steps)
+count_append (first ∷ steps) more = grind (arith, common_steps, count_append steps more)
+
+closed_by : (closed closes : Bool) (count : ℕ) (here : Bool) → (closes ≡ false → count ≡ 0) → one_if_so closed + count ≤ 1 → not ((closed || closes) && here) ≡ true → one_if_so closed + (count + one_if_so here) ≤ 1
+closed_by closed closes count here none once may = grind (arith, common_steps)
+
+pub closed_push : (closed : Bool) (steps : List Step) (next : Step) → IsClosedOnce closed steps → not ((closed || list_any is_close steps) && is_close next) ≡ true → IsClosedOnce closed (steps ++ next ∷ [])
+closed_push closed steps next once may =
+    rw (count_push steps next) (closed_by closed (list_any is_close steps) (count_by is_close steps) (is_close next) (none_counted steps) once may)
+
+pub do_close_push : (steps : List Step) (next : Step) → list_any is_close (steps ++ next ∷ []) ≡ (list_any is_close steps || is_close next)
+do_close_push [] next = grind (arith, common_steps)
+do_close_push (first ∷ steps) next = grind (arith, common_steps, do_close_push steps next)
+
+-- ---- clients whose steps close
+
+closes_push : (clients : List (List Step)) (steps : List Step) → closes (clients ++ steps ∷ []) ≡ closes clients + count_by is_close steps
+closes_push [] steps = grind (arith, common_steps, count_append steps [])
+closes_push (first ∷ clients) steps = grind (arith, common_steps, closes_push clients steps, count_append first (flat_map (λ s. s) (clients ++ steps ∷ [])), count_append first (flat_map (λ s. s) clients))
+
+none_closes : (clients : List (List Step)) → do_close clients ≡ false → closes clients ≡ 0
+none_closes [] none = refl
+none_closes (first ∷ clients) none = grind (arith, common_steps, none_closes clients, none_counted first, count_append first (flat_map (λ s. s) clients))
+
+once_by : (closed : Bool) (before here : ℕ) → (closed ≡ false → before ≡ 0) → before ≤ 1 → one_if_so closed + here ≤ 1 → before + here ≤ 1
+once_by closed before here none once more = grind (arith, common_steps)
+
+pub clients_push : (clients : List (List Step)) (steps : List Step) → closes clients ≤ 1 → IsClosedOnce (do_close clients) steps → closes (clients ++ steps ∷ []) ≤ 1
+clients_push clients steps once more =
+    rw (closes_push clients steps) (once_by (do_close clients) (closes clients) (count_by is_close steps) (none_closes clients) once more)
+
+pub do_close_more : (clients : List (List Step)) (steps : List Step) → do_close (clients ++ steps ∷ []) ≡ (do_close clients || list_any is_close steps)
+do_close_more [] steps = grind (arith, common_steps)
+do_close_more (first ∷ clients) steps = grind (arith, common_steps, do_close_more clients steps)

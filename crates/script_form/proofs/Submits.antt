@@ -1,0 +1,32 @@
+-- A submit, and a reference to an earlier step, as they were read.
+use Rattle.std.proofs.Common.{◌≡◌, ℕ, ◌<◌, true, List, [], Some, None, length, refl, arith}
+use Rattle.std.specs.Prelude.{IsTrue, ◌&&◌, ◌==◌, slice_get, Option, option_map}
+use Rattle.std.proofs.lemmas.Bool.{and_parts}
+use Rattle.std.proofs.lemmas.Grind.{common_steps}
+use Rattle.executors.specs.declared.kinds.Kind.{Kind}
+use Rattle.executors.specs.declared.queues.QueueSpec.{QueueSpec}
+use Rattle.executors.specs.declared.scripts.Script.{Script}
+use Rattle.executors.specs.declared.scripts.ScriptNode.{ScriptNode}
+use Rattle.executors.specs.declared.steps.Ack.{Ack}
+use Rattle.executors.specs.declared.steps.Step.{Step}
+use Rattle.executors.specs.declared.steps.Step.TheVariants as step
+use Rattle.executors.specs.declared.tasks.Task.{Task}
+use Rattle.executors.specs.Scripts.{is_ack, is_if_some, is_queue_for, is_step, is_task_for, is_time, is_timeout}
+use Rattle.script_form.specs.Casts.{cast}
+use Rattle.script_form.specs.Queues.{kind_at}
+use Rattle.script_form.specs.Steps.{none_if_zero}
+use Rattle.script_form.proofs.Casts.{task_for, and_both}
+
+queue_at : (script : Script) (made : Task) (executor : Kind) (queue : Option QueueSpec) → option_map (λ (q : QueueSpec). q.executor) queue ≡ Some executor → is_task_for script executor made ≡ true → is_queue_for script made queue ≡ true
+queue_at script made executor None there valid = absurd cc
+queue_at script made executor (Some queue) there valid = grind (arith, common_steps)
+
+timeout_valid : (ms : ℕ) → is_time ms ≡ true → is_if_some is_timeout (none_if_zero ms) ≡ true
+timeout_valid ms valid = grind (arith, common_steps)
+
+pub is_submit_valid : (nodes : List ScriptNode) (queues : List QueueSpec) (queue : ℕ) (executor : Kind) (made : Task) (ms : ℕ) (ack : Option Ack)
+    → kind_at queues queue ≡ Some executor → is_task_for (cast nodes [] []) executor made ≡ true → is_time ms ≡ true → is_if_some (is_ack (cast nodes [] [])) ack ≡ true
+    → is_step (cast nodes queues []) [] (step.Submit queue made (none_if_zero ms) ack) ≡ true
+is_submit_valid nodes queues queue executor made ms ack there valid time asked =
+    and_both (queue_at (cast nodes queues []) made executor (slice_get queues queue) there (task_for (cast nodes [] []) (cast nodes queues []) refl executor made valid))
+    (and_both (timeout_valid ms time) asked)

@@ -1,0 +1,127 @@
+ghost use Rattle.std.specs.Prelude.{◌≡◌, [], IfOk, IsTrue, None, bytes_eq, codes, length, map};
+ghost use Rattle.std.specs.List.{list_any};
+ghost use Rattle.serde_json.specs.View.{view};
+ghost use Rattle.executors.specs.Scripts.{are_asked, is_ack, is_if_some, is_time};
+ghost use Rattle.script_form.specs.Casts.{cast};
+ghost use Rattle.script_form.specs.Misfits.{Reads, at_place, within};
+ghost use Rattle.script_form.specs.Parts.{each, optional};
+ghost use Rattle.script_form.specs.Steps.{IsNewAsked, ack_of, asked_of, next_asked, some_ack_of, some_time_of};
+
+use crate::misfits::{Misfit, against, in_member, in_place};
+use crate::nodes::node_named_in;
+use crate::parts::{check_members, member, time_in, values_of};
+use crate::rules::Rule;
+use executors::{Ack, ScriptNode};
+use plain_data::{Items, Text};
+use serde_json::Value;
+use std::alloc::Global;
+
+/// The acknowledgement that a submit asks for, if it does.
+pub(crate) fn ack_or_none(
+    alloc: Global,
+    nodes: &[ScriptNode],
+    value: &Value,
+) -> Result<Option<Ack>, Misfit>
+    ensures exact { Reads (λ a. a) result (optional (codes "ack") None (some_ack_of nodes.now) (view value.now)) }
+    ensures valid { IfOk result (λ ack. IsTrue (is_if_some (is_ack (cast nodes.now [] [])) ack)) }
+{
+    match value.get("ack") {
+        None => Ok(None),
+        Some(member) => Ok(Some(in_member(alloc, "ack", ack_in(alloc, nodes, member))?)),
+    }
+}
+
+#[tactic(auto, unfolding(crate::specs::Steps::ack_of))]
+fn ack_in(alloc: Global, nodes: &[ScriptNode], value: &Value) -> Result<Ack, Misfit>
+    ensures exact { Reads (λ a. a) result (ack_of nodes.now (view value.now)) }
+    ensures valid { IfOk result (λ ack. IsTrue (is_ack (cast nodes.now [] []) ack)) }
+{
+    check_members(alloc, value, &["nodes", "timeout"])?;
+    let asked = member(alloc, value, "nodes")?;
+    let asked = in_member(alloc, "nodes", asked_in(alloc, nodes, asked))?;
+    let timeout = time_or_none(alloc, value)?;
+    Ok(Ack {
+        nodes: asked,
+        timeout,
+    })
+}
+
+/// The timeout, if there is one, in milliseconds.
+fn time_or_none(alloc: Global, value: &Value) -> Result<Option<u64>, Misfit>
+    ensures exact { Reads (λ t. t) result (optional (codes "timeout") None some_time_of (view value.now)) }
+    ensures valid { IfOk result (λ t. IsTrue (is_if_some is_time t)) }
+{
+    match value.get("timeout") {
+        None => Ok(None),
+        Some(member) => Ok(Some(in_member(alloc, "timeout", time_in(alloc, member))?)),
+    }
+}
+
+/// The nodes that are asked: none for all of them, or a list.
+fn asked_in(
+    alloc: Global,
+    nodes: &[ScriptNode],
+    value: &Value,
+) -> Result<Option<Items<Text>>, Misfit>
+    ensures exact { Reads (λ a. a) result (asked_of nodes.now (view value.now)) }
+    ensures valid { IfOk result (λ asked. IsTrue (is_if_some (are_asked (cast nodes.now [] [])) asked)) }
+{
+    match value.as_str() {
+        Some("all") => Ok(None),
+        Some(_) => Err(against(alloc, Rule::Value)),
+        None => Ok(Some(each_asked(alloc, nodes, values_of(alloc, value)?)?)),
+    }
+}
+
+/// The asked nodes, one after the other.
+fn each_asked(alloc: Global, nodes: &[ScriptNode], values: &[Value]) -> Result<Items<Text>, Misfit>
+    ensures exact { Reads (λ a. a) result (each (next_asked nodes.now) [] (map view values.now)) }
+    ensures valid { IfOk result (λ asked. IsTrue (are_asked (cast nodes.now [] []) asked)) }
+{
+    let mut asked = Items::new(alloc);
+    for value in values {
+        let name = next_asked_in(alloc, nodes, &asked, value)?;
+        asked.push(name)?;
+    }
+    Ok(asked)
+}
+
+/// The node that is asked after those before it, seen from their list.
+fn next_asked_in(
+    alloc: Global,
+    nodes: &[ScriptNode],
+    before: &Items<Text>,
+    value: &Value,
+) -> Result<Text, Misfit>
+    ensures exact { Reads (λ a. a) result (within (at_place (length before.now)) (next_asked nodes.now before.now (view value.now))) }
+    ensures new { IfOk result (IsNewAsked nodes.now before.now) }
+{
+    in_place(
+        alloc,
+        before.len(),
+        fit_asked_in(alloc, nodes, before.as_slice(), value),
+    )
+}
+
+fn fit_asked_in(
+    alloc: Global,
+    nodes: &[ScriptNode],
+    before: &[Text],
+    value: &Value,
+) -> Result<Text, Misfit>
+    ensures exact { Reads (λ a. a) result (next_asked nodes.now before.now (view value.now)) }
+    ensures new { IfOk result (IsNewAsked nodes.now before.now) }
+{
+    let node = node_named_in(alloc, nodes, value)?;
+    if is_among(before, node.name.as_str()) {
+        Err(against(alloc, Rule::Twice))
+    } else {
+        Ok(node.name.copy()?)
+    }
+}
+
+fn is_among(names: &[Text], name: &str) -> bool
+    ensures { result ≡ list_any (bytes_eq name.now) names.now }
+{
+    names.iter().any(|other| name == other.as_str())
+}

@@ -1,0 +1,216 @@
+ghost use Rattle.std.specs.Prelude.{◌≡◌, ◌≤◌, [], IfOk, IsTrue, length, map};
+ghost use Rattle.std.specs.List.{list_all};
+ghost use Rattle.serde_json.specs.View.{view};
+ghost use Rattle.executors.specs.Scripts.{is_turn};
+ghost use Rattle.script_form.specs.Casts.{cast};
+ghost use Rattle.script_form.specs.Misfits.{Reads, at_place, within};
+ghost use Rattle.script_form.specs.Nodes.{find_node};
+ghost use Rattle.script_form.specs.Parts.{each};
+ghost use Rattle.script_form.specs.Turns.{client_turn, is_decimal, is_digit, master_turn, more, named_turn, next_turn, node_turn, number_of, schedule_of, turn_in, turn_of};
+
+use crate::limits::LimitName;
+use crate::misfits::{Misfit, against, in_place};
+use crate::nodes::find;
+use crate::parts::{text_in, values_up_to};
+use crate::rules::Rule;
+use executors::{ScriptNode, ScriptTurn, Step};
+use plain_data::Items;
+use serde_json::Value;
+use std::alloc::Global;
+
+/// The turns of a schedule.
+pub(crate) fn schedule_in(
+    alloc: Global,
+    nodes: &[ScriptNode],
+    clients: &[Items<Step>],
+    value: &Value,
+) -> Result<Items<ScriptTurn>, Misfit>
+    requires { length clients.now ≤ 32 }
+    ensures exact { Reads (λ t. t) result (schedule_of nodes.now (length clients.now) (view value.now)) }
+    ensures limit { IfOk result (λ turns. length turns ≤ 65536) }
+    ensures valid { IfOk result (λ turns. IsTrue (list_all (is_turn (cast nodes.now [] clients.now)) turns)) }
+{
+    let values = values_up_to(alloc, value, 65536, LimitName::Schedule)?;
+    each_turn(alloc, nodes, clients, values)
+}
+
+/// The turns, one after the other.
+fn each_turn(
+    alloc: Global,
+    nodes: &[ScriptNode],
+    clients: &[Items<Step>],
+    values: &[Value],
+) -> Result<Items<ScriptTurn>, Misfit>
+    requires { length clients.now ≤ 32 }
+    ensures exact { Reads (λ t. t) result (each (next_turn nodes.now (length clients.now)) [] (map view values.now)) }
+    ensures count { IfOk result (λ turns. length turns ≡ length values.now) }
+    ensures valid { IfOk result (λ turns. IsTrue (list_all (is_turn (cast nodes.now [] clients.now)) turns)) }
+{
+    let mut turns = Items::new(alloc);
+    for value in values {
+        let turn = next_turn_in(alloc, nodes, clients, turns.len(), value)?;
+        turns.push(turn)?;
+    }
+    Ok(turns)
+}
+
+/// The turn at a place, seen from the schedule.
+fn next_turn_in(
+    alloc: Global,
+    nodes: &[ScriptNode],
+    clients: &[Items<Step>],
+    place: usize,
+    value: &Value,
+) -> Result<ScriptTurn, Misfit>
+    requires { length clients.now ≤ 32 }
+    ensures exact { Reads (λ t. t) result (within (at_place place) (turn_of nodes.now (length clients.now) (view value.now))) }
+    ensures valid { IfOk result (λ turn. IsTrue (is_turn (cast nodes.now [] clients.now) turn)) }
+{
+    in_place(alloc, place, turn_in_value(alloc, nodes, clients, value))
+}
+
+#[tactic(auto, unfolding(crate::specs::Turns::turn_of))]
+fn turn_in_value(
+    alloc: Global,
+    nodes: &[ScriptNode],
+    clients: &[Items<Step>],
+    value: &Value,
+) -> Result<ScriptTurn, Misfit>
+    requires { length clients.now ≤ 32 }
+    ensures exact { Reads (λ t. t) result (turn_of nodes.now (length clients.now) (view value.now)) }
+    ensures valid { IfOk result (λ turn. IsTrue (is_turn (cast nodes.now [] clients.now) turn)) }
+{
+    let text = text_in(alloc, value)?;
+    turn_of_text(alloc, nodes, clients, text.as_bytes())
+}
+
+/// The turn that a text says.
+fn turn_of_text(
+    alloc: Global,
+    nodes: &[ScriptNode],
+    clients: &[Items<Step>],
+    text: &[u8],
+) -> Result<ScriptTurn, Misfit>
+    requires { length clients.now ≤ 32 }
+    ensures exact { Reads (λ t. t) result (turn_in nodes.now (length clients.now) text.now) }
+    ensures valid { IfOk result (λ turn. IsTrue (is_turn (cast nodes.now [] clients.now) turn)) }
+{
+    match text.split_first() {
+        None => Err(against(alloc, Rule::Value)),
+        Some((first, rest)) => {
+            if *first == b'm' {
+                master_turn_of(alloc, rest)
+            } else if *first == b'c' {
+                client_turn_of(alloc, clients, rest)
+            } else if *first == b'n' {
+                node_turn_of(alloc, nodes, rest)
+            } else {
+                Err(against(alloc, Rule::Value))
+            }
+        }
+    }
+}
+
+/// The master's turn, where nothing follows.
+fn master_turn_of(alloc: Global, rest: &[u8]) -> Result<ScriptTurn, Misfit>
+    ensures exact { Reads (λ t. t) result (master_turn rest.now) }
+    ensures valid { IfOk result (λ turn. IsTrue (is_turn (cast [] [] []) turn)) }
+{
+    if rest.is_empty() {
+        Ok(ScriptTurn::Master)
+    } else {
+        Err(against(alloc, Rule::Value))
+    }
+}
+
+/// The turn of the client of a number.
+fn client_turn_of(
+    alloc: Global,
+    clients: &[Items<Step>],
+    digits: &[u8],
+) -> Result<ScriptTurn, Misfit>
+    requires { length clients.now ≤ 32 }
+    ensures exact { Reads (λ t. t) result (client_turn (length clients.now) digits.now) }
+    ensures valid { IfOk result (λ turn. IsTrue (is_turn (cast [] [] clients.now) turn)) }
+{
+    if !is_number(digits) {
+        return Err(against(alloc, Rule::Value));
+    }
+    let number = number_in(digits);
+    if (number as usize) < clients.len() {
+        Ok(ScriptTurn::Client(number))
+    } else {
+        Err(against(alloc, Rule::Reference))
+    }
+}
+
+/// Whether bytes are a number in decimal, without leading zeros.
+fn is_number(digits: &[u8]) -> bool
+    ensures { result ≡ is_decimal digits.now }
+{
+    match digits.split_first() {
+        None => false,
+        Some((first, rest)) => {
+            is_decimal_digit(*first) && (rest.is_empty() || (*first != b'0' && are_digits(rest)))
+        }
+    }
+}
+
+fn are_digits(bytes: &[u8]) -> bool
+    ensures { result ≡ list_all is_digit bytes.now }
+{
+    bytes.iter().all(|byte| is_decimal_digit(*byte))
+}
+
+fn is_decimal_digit(byte: u8) -> bool
+    ensures { result ≡ is_digit byte }
+{
+    matches!(byte, b'0'..=b'9')
+}
+
+/// The number that digits spell, up to 100.
+fn number_in(digits: &[u8]) -> u32
+    ensures exact { result ≡ number_of digits.now }
+    ensures small { result ≤ 100 }
+{
+    let mut number: u32 = 0;
+    for digit in digits {
+        number = one_more(number, *digit);
+    }
+    number
+}
+
+fn one_more(number: u32, digit: u8) -> u32
+    requires { number ≤ 100 }
+    ensures exact { result ≡ more number digit }
+    ensures small { result ≤ 100 }
+{
+    (number * 10 + u32::from(digit.saturating_sub(b'0'))).min(100)
+}
+
+/// The turn of the node of a name, which follows a colon.
+fn node_turn_of(alloc: Global, nodes: &[ScriptNode], rest: &[u8]) -> Result<ScriptTurn, Misfit>
+    ensures exact { Reads (λ t. t) result (named_turn nodes.now rest.now) }
+    ensures valid { IfOk result (λ turn. IsTrue (is_turn (cast nodes.now [] []) turn)) }
+{
+    match rest.split_first() {
+        None => Err(against(alloc, Rule::Value)),
+        Some((first, name)) => {
+            if *first != b':' {
+                return Err(against(alloc, Rule::Value));
+            }
+            node_turn_by_name(alloc, nodes, name)
+        }
+    }
+}
+
+#[tactic(auto, using(crate::proofs::Names::is_node_found))]
+fn node_turn_by_name(alloc: Global, nodes: &[ScriptNode], name: &[u8]) -> Result<ScriptTurn, Misfit>
+    ensures exact { Reads (λ t. t) result (node_turn (find_node nodes.now name.now)) }
+    ensures valid { IfOk result (λ turn. IsTrue (is_turn (cast nodes.now [] []) turn)) }
+{
+    match find(nodes, name) {
+        None => Err(against(alloc, Rule::Reference)),
+        Some(node) => Ok(ScriptTurn::Node(node.name.copy()?)),
+    }
+}
