@@ -6,30 +6,22 @@ use Rattle.executors.specs.declared.kinds.Kind.{Kind}
 use Rattle.executors.specs.declared.kinds.Kind.TheVariants as kind
 use Rattle.executors.specs.declared.queues.QueueSpec.{QueueSpec}
 use Rattle.executors.specs.declared.scripts.Script.{Script}
-use Rattle.executors.specs.declared.steps.Goal.{Goal}
-use Rattle.executors.specs.declared.steps.Goal.TheVariants as goal
 use Rattle.executors.specs.declared.steps.Step.{Step}
 use Rattle.executors.specs.declared.steps.Step.TheVariants as step
 
 -- the executors whose tasks are performed
 abbrev pub is_built_kind : Kind → Bool
-is_built_kind kind.Nodes = false
-is_built_kind _ = true
+is_built_kind kind.CreateIndex = true
+is_built_kind _ = false
 
 abbrev pub is_built_queue : Option QueueSpec → Bool
 is_built_queue None = false
 is_built_queue (Some queue) = is_built_kind queue.executor
 
--- what an await may wait for
-abbrev pub is_built_goal : Goal → Bool
-is_built_goal goal.Task = true
-is_built_goal goal.Ack = false
-is_built_goal goal.Watch = false
-
 -- the steps that are performed: a submit waits for ever and asks for no acknowledgement
 abbrev pub is_built_step : Script → Step → Bool
 is_built_step script (step.Submit queue task timeout ack) = is_built_queue (slice_get script.queues queue) && (is_none timeout && is_none ack)
-is_built_step script (step.Await earlier goal) = is_built_goal goal
+is_built_step script (step.Await earlier goal) = false
 is_built_step script (step.Watch node pred thens timeout) = false
 is_built_step script (step.Next watch pred thens timeout) = false
 is_built_step script (step.Read node look) = false

@@ -1,9 +1,9 @@
 ghost use Rattle.std.specs.Prelude.{◌≡◌};
 ghost use Rattle.std.specs.List.{list_all};
 ghost use Rattle.std.specs.Option.{option_copied};
-ghost use Rattle.script_form.specs.Built.{is_built, is_built_goal, is_built_kind, is_built_queue, is_built_step};
+ghost use Rattle.script_form.specs.Built.{is_built, is_built_kind, is_built_queue, is_built_step};
 
-use executors::{Goal, Kind, QueueSpec, Script, Step};
+use executors::{Kind, QueueSpec, Script, Step};
 use plain_data::Items;
 
 /// Whether a script holds nothing that isn't performed yet.
@@ -43,15 +43,8 @@ fn is_step_built(script: &Script, step: &Step) -> bool
         } => {
             is_queue_built(script.queues.get(*queue as usize)) && timeout.is_none() && ack.is_none()
         }
-        Step::Await { step: _, goal } => is_goal_built(*goal),
         _ => false,
     }
-}
-
-fn is_goal_built(goal: Goal) -> bool
-    ensures { result ≡ is_built_goal goal }
-{
-    matches!(goal, Goal::Task)
 }
 
 fn is_queue_built(queue: Option<&QueueSpec>) -> bool
@@ -66,5 +59,5 @@ fn is_queue_built(queue: Option<&QueueSpec>) -> bool
 fn is_kind_built(executor: Kind) -> bool
     ensures { result ≡ is_built_kind executor }
 {
-    !matches!(executor, Kind::Nodes)
+    matches!(executor, Kind::CreateIndex)
 }
