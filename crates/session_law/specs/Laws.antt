@@ -12,12 +12,15 @@ use Rattle.session_law.specs.declared.batches.BatchResult.TheVariants as result
 use Rattle.session_law.specs.declared.watchings.Watch.{Watch}
 use Rattle.session_law.specs.declared.worlds.World.{World}
 use Rattle.session_law.specs.Committed.{committed_on}
+use Rattle.session_law.specs.GoodForm.{IsGoodForm}
 use Rattle.session_law.specs.Histories.{after, step_at, stepped}
+use Rattle.session_law.specs.Lawful.{IsLawful}
 use Rattle.session_law.specs.NodeRecords.{applied_by, handed_to}
 use Rattle.session_law.specs.Outcomes.{holds}
 use Rattle.session_law.specs.SerialHistories.{IsSerialHistory}
 use Rattle.session_law.specs.Views.{views_of}
 use Rattle.session_law.specs.Watches.{IsWatched, answer_of, final_place, is_hit_by, pred_of, states_at}
+use Rattle.session_law.specs.Worked.{worked_script, worked_session}
 use Rattle.session_law.specs.Worlds.{first_world}
 
 -- ---- the committed versions of a serial history are 2, 3, 4, .. in order
@@ -97,3 +100,9 @@ AppliedWasHanded = (script : Script) (batches : List Batch) (node : List ℕ) �
 
 abbrev pub ViewsAreEmpty : Type 0
 ViewsAreEmpty = (state : ClusterState) → state.metadata.indices ≡ [] → ((views_of state).aliases ≡ []) × ((views_of state).indices ≡ [])
+
+-- ---- there is a lawful session: the worked one keeps each of the eight rules, and is of good form
+
+pub record IsWorked : Type 0 where
+  pub lawful : IsLawful worked_script worked_session
+  pub good : IsGoodForm worked_session

@@ -23,4 +23,5 @@ pub mod Summaries
 pub mod ViewJson
 pub mod Views
 pub mod Watches
+pub mod Worked
 pub mod Worlds

@@ -1,4 +1,4 @@
-ghost use Rattle.std.specs.Prelude.{◌≡◌, ◌++◌, OnOk, decimal, string_bytes};
+ghost use Rattle.std.specs.Prelude.{◌≡◌, ◌++◌, OnOk, codes, decimal, string_bytes};
 ghost use Rattle.session_law.specs.Joining.{list_text, more_text, names_text, numbers_text};
 ghost use Rattle.session_law.specs.Lines.{entry_text};
 
@@ -7,6 +7,13 @@ use plain_data::{OutOfMemory, Text};
 
 // Each function adds a list to `out`: its items joined by commas, `-` where there is none. After want of memory `out`
 // is to be given up.
+
+fn write_none(out: &mut String) -> Result<(), OutOfMemory>
+    ensures { OnOk result (string_bytes out.new ≡ string_bytes out.old ++ codes "-") }
+{
+    out.push_str("-")?;
+    Ok(())
+}
 
 #[tactic(auto, unfolding(crate::specs::Lines::entry_text))]
 fn write_entry(out: &mut String, entry: &Entry) -> Result<(), OutOfMemory>
@@ -33,7 +40,7 @@ pub(crate) fn write_entries(out: &mut String, entries: &[Entry]) -> Result<(), O
     ensures { OnOk result (string_bytes out.new ≡ string_bytes out.old ++ list_text entry_text entries.now) }
 {
     match entries.split_first() {
-        None => out.push_str("-")?,
+        None => write_none(out)?,
         Some((first, more)) => {
             write_entry(out, first)?;
             write_more_entries(out, more)?;
@@ -55,7 +62,7 @@ pub(crate) fn write_numbers(out: &mut String, numbers: &[u64]) -> Result<(), Out
     ensures { OnOk result (string_bytes out.new ≡ string_bytes out.old ++ numbers_text numbers.now) }
 {
     match numbers.split_first() {
-        None => out.push_str("-")?,
+        None => write_none(out)?,
         Some((first, more)) => {
             write!(out, "{first}")?;
             write_more_numbers(out, more)?;
@@ -78,7 +85,7 @@ pub(crate) fn write_names(out: &mut String, names: &[Text]) -> Result<(), OutOfM
     ensures { OnOk result (string_bytes out.new ≡ string_bytes out.old ++ names_text names.now) }
 {
     match names.split_first() {
-        None => out.push_str("-")?,
+        None => write_none(out)?,
         Some((first, more)) => {
             out.push_str(first.as_str())?;
             write_more_names(out, more)?;

@@ -1,4 +1,4 @@
-ghost use Rattle.session_law.specs.Laws.{AnswersAreFirstHits, AppliedWasHanded, OthersKeepTheState, TasksStandOnce, VersionsAreInOrder, ViewsAreEmpty};
+ghost use Rattle.session_law.specs.Laws.{AnswersAreFirstHits, AppliedWasHanded, IsWorked, OthersKeepTheState, TasksStandOnce, VersionsAreInOrder, ViewsAreEmpty};
 
 // Laws over the definitions: each function does nothing, and its contract is the law.
 
@@ -31,4 +31,9 @@ pub fn applied_was_handed()
 /// The index and alias views of a state without indices are empty.
 pub fn views_are_empty()
     ensures { ViewsAreEmpty }
+{}
+
+/// There is a lawful session of good form: the small one that `docs/MODEL.md` works through.
+pub fn worked_session_is_lawful()
+    ensures { IsWorked }
 {}
