@@ -245,27 +245,32 @@ fn found_index(id: u64, opened: bool, shards: u64, replicas: u64) -> Found {
     }
 }
 
-fn reads(alloc: Global) -> Result<Items<Read>, Fail> {
-    let awkward = Text::from_str(alloc, "a\"b\\c\n\u{1}/é")?;
-    // client, step and version of a read, and what was found
-    let table = [
-        (0, 8, 5, Found::Names(names(alloc, &["logs-1", "logs-2"])?)),
-        (0, 9, 6, found_index(3, true, 2, 1)),
-        (1, 0, 7, found_index(4, false, 5, 0)),
-        (1, 1, 0, Found::Missing),
-        (1, 2, 8, Found::Value(awkward)),
-        (1, 3, 9, Found::Names(names(alloc, &[])?)),
-    ];
-    let mut made = Vec::new(alloc);
-    for (client, step, version, found) in table {
-        made.push(Read {
-            client,
-            step,
-            version,
-            found,
-        })?;
+fn read(client: u32, step: u32, version: u64, found: Found) -> Read {
+    Read {
+        client,
+        step,
+        version,
+        found,
     }
-    Ok(Items::from_vec(made))
+}
+
+fn found_names(alloc: Global, words: &[&str]) -> Result<Found, Fail> {
+    Ok(Found::Names(names(alloc, words)?))
+}
+
+fn found_value(alloc: Global, value: &str) -> Result<Found, Fail> {
+    Ok(Found::Value(Text::from_str(alloc, value)?))
+}
+
+fn reads(alloc: Global) -> Result<Items<Read>, Fail> {
+    let mut made = Items::new(alloc);
+    made.push(read(0, 8, 5, found_names(alloc, &["logs-1", "logs-2"])?))?;
+    made.push(read(0, 9, 6, found_index(3, true, 2, 1)))?;
+    made.push(read(1, 0, 7, found_index(4, false, 5, 0)))?;
+    made.push(read(1, 1, 0, Found::Missing))?;
+    made.push(read(1, 2, 8, found_value(alloc, "a\"b\\c\n\u{1}/é")?))?;
+    made.push(read(1, 3, 9, found_names(alloc, &[])?))?;
+    Ok(made)
 }
 
 fn applied(from: u64, to: u64, phases: [u64; 4], change: Change) -> Apply {
@@ -283,50 +288,87 @@ fn applied(from: u64, to: u64, phases: [u64; 4], change: Change) -> Apply {
     }
 }
 
+// What a change has, in the order of its line.
+struct Lists<'a> {
+    created: &'a [&'a str],
+    deleted: &'a [&'a str],
+    changed: &'a [&'a str],
+    joined: &'a [&'a str],
+    left: &'a [&'a str],
+    settings: &'a [&'a str],
+}
+
+fn change(alloc: Global, lists: &Lists<'_>) -> Result<Change, Fail> {
+    Ok(Change {
+        created: names(alloc, lists.created)?,
+        deleted: names(alloc, lists.deleted)?,
+        changed: names(alloc, lists.changed)?,
+        joined: names(alloc, lists.joined)?,
+        left: names(alloc, lists.left)?,
+        settings: names(alloc, lists.settings)?,
+    })
+}
+
+const FULL_CHANGE: Lists<'static> = Lists {
+    created: &["a", "b"],
+    deleted: &[],
+    changed: &["c"],
+    joined: &["n1"],
+    left: &["n2", "n3"],
+    settings: &["k"],
+};
+
+const SMALL_CHANGE: Lists<'static> = Lists {
+    created: &[],
+    deleted: &["d"],
+    changed: &[],
+    joined: &[],
+    left: &[],
+    settings: &[],
+};
+
 fn applies(alloc: Global) -> Result<Items<Apply>, Fail> {
-    let first = Change {
-        created: names(alloc, &["a", "b"])?,
-        deleted: names(alloc, &[])?,
-        changed: names(alloc, &["c"])?,
-        joined: names(alloc, &["n1"])?,
-        left: names(alloc, &["n2", "n3"])?,
-        settings: names(alloc, &["k"])?,
-    };
-    let last = Change {
-        created: names(alloc, &[])?,
-        deleted: names(alloc, &["d"])?,
-        changed: names(alloc, &[])?,
-        joined: names(alloc, &[])?,
-        left: names(alloc, &[])?,
-        settings: names(alloc, &[])?,
-    };
-    let failed = Apply {
+    let first = change(alloc, &FULL_CHANGE)?;
+    let last = change(alloc, &SMALL_CHANGE)?;
+    let mut made = Items::new(alloc);
+    made.push(applied(1, 2, [1, 1, 1, 2], first))?;
+    made.push(Apply {
         from: 2,
         to: 3,
         end: ApplyEnd::Failed,
-    };
-    let made = vec![in alloc;
-        applied(1, 2, [1, 1, 1, 2], first),
-        failed,
-        applied(2, 5, [6, 7, 8, 9], last),
-    ]?;
-    Ok(Items::from_vec(made))
+    })?;
+    made.push(applied(2, 5, [6, 7, 8, 9], last))?;
+    Ok(made)
+}
+
+fn some_aliases(alloc: Global) -> Result<Map<Items<Text>>, Fail> {
+    let mut made = Map::new(alloc);
+    made.set(Text::from_str(alloc, "one")?, names(alloc, &["a"])?)?;
+    made.set(Text::from_str(alloc, "all")?, names(alloc, &["a", "b"])?)?;
+    Ok(made)
+}
+
+fn some_ids(alloc: Global) -> Result<Map<u64>, Fail> {
+    let mut made = Map::new(alloc);
+    made.set(Text::from_str(alloc, "b")?, 2)?;
+    made.set(Text::from_str(alloc, "a")?, 1)?;
+    Ok(made)
+}
+
+fn some_settings(alloc: Global) -> Result<Map<Text>, Fail> {
+    let mut made = Map::new(alloc);
+    made.set(
+        Text::from_str(alloc, "k")?,
+        Text::from_str(alloc, "v \"w\"")?,
+    )?;
+    Ok(made)
 }
 
 fn full_view(alloc: Global) -> Result<View, Fail> {
-    let mut aliases = Map::new(alloc);
-    aliases.set(Text::from_str(alloc, "one")?, names(alloc, &["a"])?)?;
-    aliases.set(Text::from_str(alloc, "all")?, names(alloc, &["a", "b"])?)?;
-    let mut indices = Map::new(alloc);
-    indices.set(Text::from_str(alloc, "b")?, 2)?;
-    indices.set(Text::from_str(alloc, "a")?, 1)?;
-    let mut settings = Map::new(alloc);
-    let value = Text::from_str(alloc, "v \"w\"")?;
-    settings.set(Text::from_str(alloc, "k")?, value)?;
     Ok(View {
-        aliases,
-        indices,
-        settings,
+        aliases: some_aliases(alloc)?,
+        indices: some_ids(alloc)?,
+        settings: some_settings(alloc)?,
     })
 }
 
@@ -347,13 +389,21 @@ fn idle(alloc: Global, name: &str, first: u64) -> Result<NodeRec, Fail> {
     })
 }
 
+fn busy(alloc: Global) -> Result<NodeRec, Fail> {
+    Ok(NodeRec {
+        node: Text::from_str(alloc, "n0")?,
+        handed: Items::from_vec(vec![in alloc; 2, 3, 5]?),
+        first: 1,
+        applies: applies(alloc)?,
+        view: full_view(alloc)?,
+    })
+}
+
 fn nodes(alloc: Global) -> Result<Items<NodeRec>, Fail> {
-    let mut busy = idle(alloc, "n0", 1)?;
-    busy.handed = Items::from_vec(vec![in alloc; 2, 3, 5]?);
-    busy.applies = applies(alloc)?;
-    busy.view = full_view(alloc)?;
-    let made = vec![in alloc; busy, idle(alloc, "n9", 0)?]?;
-    Ok(Items::from_vec(made))
+    let mut made = Items::new(alloc);
+    made.push(busy(alloc)?)?;
+    made.push(idle(alloc, "n9", 0)?)?;
+    Ok(made)
 }
 
 fn index(alloc: Global, id: u64, aliases: &[&str]) -> Result<IndexMetadata, Fail> {
@@ -397,20 +447,47 @@ view n9 {"aliases":{},"indices":{},"settings":{}}
 state {"cluster":"demo","id":1,"master":"n0","metadata":{"created":0,"indices":{},"settings":{},"version":1},"nodes":{"n0":{"eligible":true}},"term":1,"version":1}
 "#;
 
+// A session of one batch without tasks, and of all that the first test doesn't have.
+fn others(alloc: Global) -> Result<Session, Fail> {
+    let empty = batch(alloc, "q", 0, &[], BatchResult::NotMaster)?;
+    Ok(Session {
+        batches: Items::from_vec(vec![in alloc; empty]?),
+        replies: Items::new(alloc),
+        acks: acks(alloc)?,
+        watches: watches(alloc)?,
+        reads: reads(alloc)?,
+        nodes: nodes(alloc)?,
+        last: demo(alloc)?,
+    })
+}
+
 #[test]
 fn a_report_has_a_line_for_each_ack_watch_and_read_and_the_lines_of_each_node(
     rt: HostRuntime,
 ) -> Result<(), Fail> {
     let alloc = rt.alloc();
-    let outcome = BatchResult::NotMaster;
-    let empty_batch = batch(alloc, "q", 0, &[], outcome)?;
-    let mut others = session(alloc, vec![in alloc; empty_batch]?, Vec::new(alloc))?;
-    others.acks = acks(alloc)?;
-    others.watches = watches(alloc)?;
-    others.reads = reads(alloc)?;
-    others.nodes = nodes(alloc)?;
-    assert_eq!(rt; report_text(alloc, &others)?.as_str(), OTHERS);
+    assert_eq!(rt; report_text(alloc, &others(alloc)?)?.as_str(), OTHERS);
     Ok(())
+}
+
+fn with_indices(alloc: Global) -> Result<ClusterState, Fail> {
+    let mut state = demo(alloc)?;
+    let indices = &mut state.metadata.indices;
+    indices.set(
+        Text::from_str(alloc, "b")?,
+        index(alloc, 1, &["all", "one"])?,
+    )?;
+    indices.set(Text::from_str(alloc, "a")?, index(alloc, 2, &["all"])?)?;
+    Ok(state)
+}
+
+// A session of the tasks of the first test, two indices and a node that began with a version.
+fn counted(alloc: Global, first: u64) -> Result<Session, Fail> {
+    let node = idle(alloc, "n0", first)?;
+    let mut made = session(alloc, Vec::new(alloc), replies(alloc)?)?;
+    made.nodes.push(node)?;
+    made.last = with_indices(alloc)?;
+    Ok(made)
 }
 
 #[test]
@@ -418,21 +495,14 @@ fn a_summary_counts_tasks_indices_and_aliases_and_compares_the_nodes(
     rt: HostRuntime,
 ) -> Result<(), Fail> {
     let alloc = rt.alloc();
-    let mut made = session(alloc, Vec::new(alloc), Vec::new(alloc))?;
-    let none = "tasks 0 ok 0 indices 0 aliases 0 nodes equal\n";
-    assert_eq!(rt; summary_text(alloc, &made)?.as_str(), none);
-    made.replies = Items::from_vec(replies(alloc)?);
-    let indices = &mut made.last.metadata.indices;
-    indices.set(
-        Text::from_str(alloc, "b")?,
-        index(alloc, 1, &["all", "one"])?,
-    )?;
-    indices.set(Text::from_str(alloc, "a")?, index(alloc, 2, &["all"])?)?;
-    made.nodes = Items::from_vec(vec![in alloc; idle(alloc, "n0", 1)?]?);
+    let empty = session(alloc, Vec::new(alloc), Vec::new(alloc))?;
+    assert_eq!(rt;
+        summary_text(alloc, &empty)?.as_str(),
+        "tasks 0 ok 0 indices 0 aliases 0 nodes equal\n"
+    );
     let equal = "tasks 8 ok 1 indices 2 aliases 2 nodes equal\n";
-    assert_eq!(rt; summary_text(alloc, &made)?.as_str(), equal);
-    made.nodes = nodes(alloc)?;
+    assert_eq!(rt; summary_text(alloc, &counted(alloc, 1)?)?.as_str(), equal);
     let differ = "tasks 8 ok 1 indices 2 aliases 2 nodes differ\n";
-    assert_eq!(rt; summary_text(alloc, &made)?.as_str(), differ);
+    assert_eq!(rt; summary_text(alloc, &counted(alloc, 2)?)?.as_str(), differ);
     Ok(())
 }
