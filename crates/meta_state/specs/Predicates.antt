@@ -23,5 +23,5 @@ met_step state (Pred-F.Not inner) = not inner
 met_step state (Pred-F.All parts) = list_all (λ b. b) parts
 met_step state (Pred-F.Any parts) = list_any (λ b. b) parts
 
-abbrev pub is_met : ClusterState → Pred → Bool
+unfoldable pub is_met : ClusterState → Pred → Bool
 is_met state = fold-Pred Bool (met_step state)

@@ -59,6 +59,7 @@ acknowledged = record {
 }
 
 met_index : (state : ClusterState) (name : List ℕ) → is_met state (Index name) ≡ is_some (lookup name state.metadata.indices)
+unfolding is_met
 met_index state name = ap (is_met state) (sym (rolls-Index name)) ∙ fold-roll-Pred Bool (met_step state) (Pred-F.Index name)
 
 at_most_three : 3 ≤ 3
