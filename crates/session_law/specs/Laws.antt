@@ -20,7 +20,7 @@ use Rattle.session_law.specs.Outcomes.{holds}
 use Rattle.session_law.specs.SerialHistories.{IsSerialHistory}
 use Rattle.session_law.specs.Views.{views_of}
 use Rattle.session_law.specs.Watches.{IsWatched, answer_of, final_place, is_hit_by, pred_of, states_at}
-use Rattle.session_law.specs.Worked.{worked_script, worked_session}
+use Rattle.session_law.specs.Worked.{answering_early, failing_the_ack, leaving_a_node, leaving_a_task, leaving_the_ack, reading_the_first_state, seeing_nothing, skipping_a_version, turning_the_replies, worked_script, worked_session}
 use Rattle.session_law.specs.Worlds.{first_world}
 
 -- ---- the committed versions of a serial history are 2, 3, 4, .. in order
@@ -106,3 +106,16 @@ ViewsAreEmpty = (state : ClusterState) → state.metadata.indices ≡ [] → ((v
 pub record IsWorked : Type 0 where
   pub lawful : IsLawful worked_script worked_session
   pub good : IsGoodForm worked_session
+
+-- ---- a changed one isn't lawful
+
+pub record AreUnlawful : Type 0 where
+  pub version : ¬ IsLawful worked_script skipping_a_version
+  pub seen : ¬ IsLawful worked_script seeing_nothing
+  pub task : ¬ IsLawful worked_script leaving_a_task
+  pub acknowledgement : ¬ IsLawful worked_script leaving_the_ack
+  pub failure : ¬ IsLawful worked_script failing_the_ack
+  pub answer : ¬ IsLawful worked_script answering_early
+  pub read : ¬ IsLawful worked_script reading_the_first_state
+  pub node : ¬ IsLawful worked_script leaving_a_node
+  pub order : ¬ IsLawful worked_script turning_the_replies

@@ -111,3 +111,47 @@ worked_session = record {
   nodes = worked_node (codes "n0") ∷ worked_node (codes "n1") ∷ [];
   last = worked_state;
 }
+
+-- ---- the same session with one thing changed, so that it breaks one rule at least
+
+-- a version is left out
+abbrev pub skipping_a_version : Session
+skipping_a_version = record worked_session { batches = one_task 0 0 2 ∷ one_task 2 1 4 ∷ [] }
+
+-- a task's client hadn't seen what it awaited
+abbrev pub seeing_nothing : Session
+seeing_nothing = record worked_session { batches = one_task 0 0 2 ∷ one_task 2 0 3 ∷ [] }
+
+-- a task has no reply
+abbrev pub leaving_a_task : Session
+leaving_a_task = record worked_session { replies = record { client = 0; step = 0; at = 0; end = end.Ok 2 } ∷ [] }
+
+-- an acknowledgement is missing
+abbrev pub leaving_the_ack : Session
+leaving_the_ack = record worked_session { acks = [] }
+
+-- a required node is said not to have applied
+abbrev pub failing_the_ack : Session
+failing_the_ack = record worked_session { acks = record { client = 0; step = 0; end = ack.Failed 1 } ∷ [] }
+
+-- a watch is answered by a state that doesn't hit it
+abbrev pub answering_early : Session
+answering_early = record worked_session {
+  watches = record { client = 1; step = 0; part = 0; at = 0; last = None; place = 0; shown = 2; end = watch.Answered 2 } ∷ [];
+}
+
+-- a read is of a version older than the client knows
+abbrev pub reading_the_first_state : Session
+reading_the_first_state = record worked_session { reads = record { client = 0; step = 3; version = 1; found = found.Missing } ∷ [] }
+
+-- a node has no record
+abbrev pub leaving_a_node : Session
+leaving_a_node = record worked_session { nodes = worked_node (codes "n0") ∷ [] }
+
+-- the replies stand in another order
+abbrev pub turning_the_replies : Session
+turning_the_replies = record worked_session {
+  replies =
+      record { client = 0; step = 2; at = 0; end = end.Ok 3 } ∷
+      record { client = 0; step = 0; at = 0; end = end.Ok 2 } ∷ [];
+}

@@ -1,4 +1,4 @@
-ghost use Rattle.session_law.specs.Laws.{AnswersAreFirstHits, AppliedWasHanded, IsWorked, OthersKeepTheState, TasksStandOnce, VersionsAreInOrder, ViewsAreEmpty};
+ghost use Rattle.session_law.specs.Laws.{AnswersAreFirstHits, AppliedWasHanded, AreUnlawful, IsWorked, OthersKeepTheState, TasksStandOnce, VersionsAreInOrder, ViewsAreEmpty};
 
 // Laws over the definitions: each function does nothing, and its contract is the law.
 
@@ -36,4 +36,9 @@ pub fn views_are_empty()
 /// There is a lawful session of good form: the small one that `docs/MODEL.md` works through.
 pub fn worked_session_is_lawful()
     ensures { IsWorked }
+{}
+
+/// With one thing of it changed it isn't lawful.
+pub fn changed_sessions_are_unlawful()
+    ensures { AreUnlawful }
 {}

@@ -268,7 +268,7 @@ fn reads(alloc: Global) -> Result<Items<Read>, Fail> {
     made.push(read(0, 9, 6, found_index(3, true, 2, 1)))?;
     made.push(read(1, 0, 7, found_index(4, false, 5, 0)))?;
     made.push(read(1, 1, 0, Found::Missing))?;
-    made.push(read(1, 2, 8, found_value(alloc, "a\"b\\c\n\u{1}/é")?))?;
+    made.push(read(1, 2, 8, found_value(alloc, "a\"b\\c\n\u{1}/")?))?;
     made.push(read(1, 3, 9, found_names(alloc, &[])?))?;
     Ok(made)
 }
@@ -435,7 +435,7 @@ read 0.8 version 5 names logs-1,logs-2
 read 0.9 version 6 index id 3 open shards 2 replicas 1
 read 1.0 version 7 index id 4 closed shards 5 replicas 0
 read 1.1 version 0 missing
-read 1.2 version 8 value "a\"b\\c\n\u0001/é"
+read 1.2 version 8 value "a\"b\\c\n\u0001/"
 read 1.3 version 9 names -
 node n0 handed 2,3,5 applied 1,2,5
 apply n0 1>2 high 1 normal 1 low 1 listeners 2 created a,b deleted - changed c joined n1 left n2,n3 settings k
