@@ -55,7 +55,7 @@ rises_from is_less a (b ∷ bs) = is_less a b && rises_from is_less b bs
 
 abbrev pub is_rising : {A : Type 0} → (A → A → Bool) → List A → Bool
 is_rising is_less [] = true
-is_rising is_less (a ∷ as_) = rises_from is_less a as_
+is_rising is_less (a ∷ others) = rises_from is_less a others
 
 -- replies, acknowledgements and reads by client and step, watches also by part
 pub record AreInOrder (session : Session) : Type 0 where

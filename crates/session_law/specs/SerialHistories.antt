@@ -22,12 +22,12 @@ awaited_batch batches client (Await step Ack) = number_of batches client step
 awaited_batch batches client _ = 0
 
 -- the greatest number of a batch that holds a task which an earlier await step of the client names
-abbrev pub seen_of : List Batch → Script → ℕ → ℕ → ℕ
-seen_of batches script client step = greatest (map (λ s. awaited_batch batches s.client s.step) (steps_before script client step))
+abbrev pub seen_of : Script → List Batch → ℕ → ℕ → ℕ
+seen_of script batches client step = greatest (map (λ s. awaited_batch batches s.client s.step) (steps_before script client step))
 
-abbrev pub HasSeen : List Batch → Script → Placed → Type 0
-HasSeen batches script placed = placed.entry.seen ≡ seen_of batches script placed.entry.client placed.entry.step
+abbrev pub HasSeen : Script → List Batch → Placed → Type 0
+HasSeen script batches placed = placed.entry.seen ≡ seen_of script batches placed.entry.client placed.entry.step
 
 pub record IsSerialHistory (script : Script) (batches : List Batch) : Type 0 where
   pub serial : IsSerial script batches
-  pub seen : AllByRecursion (HasSeen batches script) (placed_of batches)
+  pub seen : AllByRecursion (HasSeen script batches) (placed_of batches)
