@@ -10,6 +10,7 @@ use Rattle.meta_state.specs.declared.predicates.Pred.TheVariants.{Index, rolls-I
 use Rattle.meta_state.specs.declared.states.ClusterState.{ClusterState}
 use Rattle.meta_state.specs.Predicates.{is_met, met_step}
 use Rattle.executors.specs.Executions.{executed, folded}
+use Rattle.executors.specs.Outcomes.{task_outcome}
 use Rattle.meta_state.specs.Looks.{found_at}
 use Rattle.session_law.specs.declared.batches.BatchResult.{BatchResult}
 use Rattle.session_law.specs.declared.records.NodeRec.{NodeRec}
@@ -35,7 +36,7 @@ never : {A : Type 0} → false ≡ true → A
 never e = absurd (false≢true e)
 
 serial : IsSerialHistory worked_script worked_session.batches
-unfolding first_world batch_step reach_all executed folded
+unfolding first_world batch_step reach_all executed folded task_outcome
 serial = record {
   serial = record {
     results = (refl, (refl, tt));
@@ -48,14 +49,14 @@ serial = record {
 }
 
 ended : EndsOnce worked_script worked_session.batches worked_session.replies
-unfolding first_world batch_step reach_all executed folded
+unfolding first_world batch_step reach_all executed folded task_outcome
 ended = record {
   ended = (record { submit = refl; end = refl; after_close = never }, (record { submit = refl; end = refl; after_close = never }, tt));
   once = ((λ _. refl), (never, ((λ _. refl), (never, (never, tt)))));
 }
 
 acknowledged : IsAcknowledged worked_script worked_session.batches worked_session.acks
-unfolding first_world batch_step reach_all executed folded
+unfolding first_world batch_step reach_all executed folded task_outcome
 acknowledged = record {
   answered = (refl, tt);
   once = ((λ _. refl), (never, (never, (never, (never, tt)))));
@@ -69,7 +70,7 @@ at_most_three : 3 ≤ 3
 at_most_three = omega arith
 
 watched : IsWatched worked_script worked_session.batches worked_session.watches
-unfolding first_world batch_step reach_all executed folded
+unfolding first_world batch_step reach_all executed folded task_outcome
 watched = record {
   parts = (record { begins = refl; shown = omega arith; within = at_most_three; passed = λ i. list_all (λ s. not (met_index s (codes "b") i)) (take 2 (states_at worked_script worked_session.batches 1 0)); ends = (met_index worked_session.last (codes "b"), refl); after_close = never }, tt);
   once = (refl, tt);
@@ -81,7 +82,7 @@ two_of_three : 2 ≤ 3
 two_of_three = omega arith
 
 read : IsRead worked_script worked_session
-unfolding first_world batch_step reach_all executed folded found_at
+unfolding first_world batch_step reach_all executed folded task_outcome found_at
 read = record {
   found = ((refl, (two_of_three, refl)), tt);
   once = (never, (never, (never, ((λ _. refl), (never, tt)))));
@@ -91,11 +92,11 @@ none_of_one : 0 ≤ 1
 none_of_one = omega arith
 
 placed : AllByRecursion (IsPlaced worked_script worked_session) worked_session.watches
-unfolding first_world batch_step reach_all executed folded
+unfolding first_world batch_step reach_all executed folded task_outcome
 placed = ((λ _. none_of_one), tt)
 
 recorded : IsRecorded worked_script worked_session
-unfolding first_world batch_step reach_all executed folded node_record change_between views_of
+unfolding first_world batch_step reach_all executed folded task_outcome node_record change_between views_of
 recorded = record {
   each = (refl, (refl, tt));
   known = (refl, (refl, tt));
@@ -105,7 +106,7 @@ order : AreInOrder worked_session
 order = record { replies = refl; acks = refl; watches = refl; reads = refl }
 
 final : IsFinal worked_script worked_session
-unfolding first_world batch_step reach_all executed folded
+unfolding first_world batch_step reach_all executed folded task_outcome
 final = record {
   last = refl;
   order = order;
@@ -152,31 +153,31 @@ two_one : ¬ (2 ≤ 1)
 two_one e = omega arith
 
 skips : ¬ IsLawful worked_script skipping_a_version
-unfolding first_world batch_step reach_all executed folded
+unfolding first_world batch_step reach_all executed folded task_outcome
 skips h = four_three (ap (λ (r : BatchResult). unwrap_or (published_version r) 0) h.serial.serial.results.1.0)
 
 sees_nothing : ¬ IsLawful worked_script seeing_nothing
-unfolding first_world batch_step reach_all executed folded
+unfolding first_world batch_step reach_all executed folded task_outcome
 sees_nothing h = zero_one h.serial.seen.1.0
 
 leaves_a_task : ¬ IsLawful worked_script leaving_a_task
 leaves_a_task h = zero_one (h.ended.once.1.1.0 refl)
 
 leaves_the_ack : ¬ IsLawful worked_script leaving_the_ack
-unfolding first_world batch_step reach_all executed folded
+unfolding first_world batch_step reach_all executed folded task_outcome
 leaves_the_ack h = zero_one (h.acknowledged.once.0 refl)
 
 fails_the_ack : ¬ IsLawful worked_script failing_the_ack
-unfolding first_world batch_step reach_all executed folded
+unfolding first_world batch_step reach_all executed folded task_outcome
 fails_the_ack h = one_zero h.acknowledged.answered.0.0
 
 answers_early : ¬ IsLawful worked_script answering_early
-unfolding first_world batch_step reach_all executed folded
+unfolding first_world batch_step reach_all executed folded task_outcome
 answers_early h =
     absurd (false≢true (sym (met_index (world_after worked_script (one_task 0 0 2 ∷ [])).state (codes "b")) ∙ h.watched.parts.0.ends.0))
 
 reads_the_first_state : ¬ IsLawful worked_script reading_the_first_state
-unfolding first_world batch_step reach_all executed folded
+unfolding first_world batch_step reach_all executed folded task_outcome
 reads_the_first_state h = two_one h.read.found.0.1.0
 
 leaves_a_node : ¬ IsLawful worked_script leaving_a_node

@@ -1,6 +1,6 @@
 -- Good form: what a session must be so that its report tells it whole. All names are names, lists of names are in byte
 -- order, and the lists of the session are in the order of their lines. It is this project's own.
-use Rattle.std.specs.Prelude.{ℕ, ◌==◌, ◌&&◌, ◌||◌, Bool, true, false, List, [], ◌∷◌, is_none, map, nat_le, length, bytes_eq, IsTrue}
+use Rattle.std.specs.Prelude.{ℕ, ◌&&◌, Bool, true, List, is_none, map, bytes_eq, IsTrue}
 use Rattle.std.specs.Cmp.Lexicographic.{slice_cmp}
 use Rattle.std.specs.List.{list_all}
 use Rattle.std.specs.Map.{keys_of}
@@ -11,7 +11,8 @@ use Rattle.meta_state.specs.declared.looks.Found.TheVariants as found
 use Rattle.meta_state.specs.declared.nodes.NodeInfo.{NodeInfo}
 use Rattle.meta_state.specs.declared.states.ClusterState.{ClusterState}
 use Rattle.meta_state.specs.Names.{name_fault}
-use Rattle.executors.specs.Scripts.{are_distinct, is_name, is_name_byte, is_name_start}
+use Rattle.executors.specs.Scripts.{are_distinct, is_name}
+use Rattle.executors.specs.SettingTasks.{is_key}
 use Rattle.session_law.specs.declared.records.ApplyEnd.{ApplyEnd}
 use Rattle.session_law.specs.declared.records.ApplyEnd.TheVariants as end
 use Rattle.session_law.specs.declared.records.Change.{Change}
@@ -25,17 +26,6 @@ use Rattle.session_law.specs.Lawful.{AreInOrder, is_rising}
 -- a name that an index or an alias may have
 abbrev pub is_index_name : List ℕ → Bool
 is_index_name name = is_none (name_fault name)
-
--- 1 to 255 bytes of a to z, 0 to 9, ., _ and -, beginning with a letter or a digit
-abbrev pub is_key_byte : ℕ → Bool
-is_key_byte b = is_name_byte b || (b == 0x2E)
-
-abbrev pub begins_key : List ℕ → Bool
-begins_key [] = false
-begins_key (b ∷ _) = is_name_start b
-
-abbrev pub is_key : List ℕ → Bool
-is_key key = begins_key key && (nat_le (length key) 255 && list_all is_key_byte key)
 
 abbrev pub is_name_before : List ℕ → List ℕ → Bool
 is_name_before a b = is_lt (slice_cmp nat_cmp a b)
