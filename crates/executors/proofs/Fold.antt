@@ -1,8 +1,7 @@
 -- The fold of a batch: how far it has come, and that the counters that tasks raise can still rise.
-use Rattle.std.specs.Prelude.{◌≡◌, ℕ, ◌+◌, ◌-◌, ◌^◌, ◌<◌, ◌≤◌, Bool, true, false, List, [], ◌∷◌, Option, Some, None, Result, Ok, Err, IfOk, IsOkAnd, refl, if◌then◌else◌}
+use Rattle.std.specs.Prelude.{◌≡◌, ℕ, ◌+◌, ◌-◌, ◌^◌, ◌<◌, ◌≤◌, List, [], ◌∷◌, Result, Ok, Err, IfOk, IsOkAnd}
 use Rattle.std.proofs.Common.{sym, ◌∙◌, ap, subst, arith}
 use Rattle.std.specs.List.{AllByRecursion}
-use Rattle.plain_data.specs.Pairs.{lookup}
 use Rattle.plain_data.specs.declared.memory.OutOfMemory.{OutOfMemory}
 use Rattle.meta_state.specs.declared.indices.IndexMetadata.{IndexMetadata}
 use Rattle.meta_state.specs.declared.states.ClusterState.{ClusterState}

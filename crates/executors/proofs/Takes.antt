@@ -1,5 +1,5 @@
 -- A script's task is one that its queue's executor takes.
-use Rattle.std.specs.Prelude.{◌≡◌, true, false, refl}
+use Rattle.std.specs.Prelude.{◌≡◌, true, refl}
 use Rattle.executors.specs.declared.kinds.Kind.{Kind}
 use Rattle.executors.specs.declared.kinds.Kind.TheVariants as kind
 use Rattle.executors.specs.declared.scripts.Script.{Script}

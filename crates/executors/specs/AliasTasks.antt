@@ -1,7 +1,7 @@
 -- What the tasks of aliases do to a state (Elasticsearch's `MetadataIndexAliasesService`). That an alias may not have
 -- the name of an index is Elasticsearch's; that it meets all rules of index names, and the order of the checks, are
 -- this project's own.
-use Rattle.std.specs.Prelude.{ℕ, ◌+◌, Bool, true, false, not, List, Some, None, Option, is_some, if◌then◌else◌}
+use Rattle.std.specs.Prelude.{ℕ, ◌+◌, Bool, false, not, List, Some, None, Option, is_some, if◌then◌else◌}
 use Rattle.plain_data.specs.Pairs.{lookup, with, without}
 use Rattle.meta_state.specs.declared.indices.IndexMetadata.{IndexMetadata}
 use Rattle.meta_state.specs.declared.states.ClusterState.{ClusterState}

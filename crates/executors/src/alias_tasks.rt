@@ -79,11 +79,7 @@ fn add_alias(
     put_index(state, name, changed)
 }
 
-fn widened(
-    alloc: Global,
-    index: &IndexMetadata,
-    alias: &Text,
-) -> Result<IndexMetadata, OutOfMemory>
+fn widened(alloc: Global, index: &IndexMetadata, alias: &Text) -> Result<IndexMetadata, OutOfMemory>
     requires { CanIndexRise index.now }
     ensures { IfOk result (λ made. made ≡ with_alias index.now alias.now) }
 {

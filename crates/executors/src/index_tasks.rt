@@ -75,10 +75,7 @@ fn create(
 }
 
 /// Deletes an index, whose aliases go with it, or refuses to.
-pub(crate) fn run_deletion(
-    state: &mut ClusterState,
-    index: &Text,
-) -> Result<Verdict, OutOfMemory>
+pub(crate) fn run_deletion(state: &mut ClusterState, index: &Text) -> Result<Verdict, OutOfMemory>
     ensures { IfOk result (λ verdict. (state.new, verdict) ≡ outcome (delete_refusal state.old index.now) state.old (deleted_in state.old index.now)) }
 {
     if let Some(refusal) = why_not_delete(state, index) {

@@ -285,112 +285,126 @@ fn letters(alloc: Global, count: u64) -> Result<Text, Fail> {
     Ok(Text::from_string(name))
 }
 
-// The task of a row, by its two names and its number.
-fn asked(alloc: Global, act: Act, name: &str, other: &str, number: u64) -> Result<Task, Fail> {
+fn of_index(alloc: Global, act: Act, name: &str, key: &str, number: u64) -> Result<Task, Fail> {
     let index = text(alloc, name)?;
-    let alias = text(alloc, other)?;
-    let long = letters(alloc, number)?;
-    Ok(match act {
-        Act::Create => Task::CreateIndex {
+    match act {
+        Act::Create => Ok(Task::CreateIndex {
             index,
             shards: 2,
             replicas: number,
-        },
-        Act::Delete => Task::DeleteIndex { index },
-        Act::Set => Task::IndexSetting {
+        }),
+        Act::Set => Ok(Task::IndexSetting {
             index,
-            key: alias,
+            key: text(alloc, key)?,
             value: number,
-        },
-        Act::Open => Task::OpenClose {
+        }),
+        Act::Open => Ok(Task::OpenClose {
             index,
             opened: true,
-        },
-        Act::Shut => Task::OpenClose {
+        }),
+        Act::Shut => Ok(Task::OpenClose {
             index,
             opened: false,
-        },
-        Act::Add => Task::Alias {
-            index,
-            alias,
-            add: true,
-        },
-        Act::Remove => Task::Alias {
-            index,
-            alias,
-            add: false,
-        },
-        Act::Put => Task::ClusterSetting {
-            key: index,
-            value: Some(long),
-        },
-        Act::PutLong => Task::ClusterSetting {
-            key: long,
-            value: Some(index),
-        },
-        Act::Clear => Task::ClusterSetting {
-            key: index,
+        }),
+        _ => Ok(Task::DeleteIndex { index }),
+    }
+}
+
+fn of_alias(alloc: Global, index: &str, alias: &str, add: bool) -> Result<Task, Fail> {
+    Ok(Task::Alias {
+        index: text(alloc, index)?,
+        alias: text(alloc, alias)?,
+        add,
+    })
+}
+
+fn setting(key: Text, value: Text) -> Task {
+    Task::ClusterSetting {
+        key,
+        value: Some(value),
+    }
+}
+
+fn of_setting(alloc: Global, act: Act, name: &str, number: u64) -> Result<Task, Fail> {
+    let name = text(alloc, name)?;
+    match act {
+        Act::Put => Ok(setting(name, letters(alloc, number)?)),
+        Act::PutLong => Ok(setting(letters(alloc, number)?, name)),
+        _ => Ok(Task::ClusterSetting {
+            key: name,
             value: None,
-        },
-        Act::Join => Task::Join {
+        }),
+    }
+}
+
+fn of_node(alloc: Global, act: Act, name: &str, number: u64) -> Result<Task, Fail> {
+    let name = text(alloc, name)?;
+    match act {
+        Act::Leave => Ok(Task::Leave { name }),
+        _ => Ok(Task::Join {
             node: NodeInfo {
-                name: index,
+                name,
                 eligible: number == 1,
             },
-        },
-        Act::Leave => Task::Leave { name: index },
-        Act::Reelect => Task::Reelect,
-    })
+        }),
+    }
+}
+
+// The task of a row, by its two names and its number.
+fn asked(alloc: Global, act: Act, name: &str, other: &str, number: u64) -> Result<Task, Fail> {
+    match act {
+        Act::Add => of_alias(alloc, name, other, true),
+        Act::Remove => of_alias(alloc, name, other, false),
+        Act::Put | Act::PutLong | Act::Clear => of_setting(alloc, act, name, number),
+        Act::Join | Act::Leave => of_node(alloc, act, name, number),
+        Act::Reelect => Ok(Task::Reelect),
+        _ => of_index(alloc, act, name, other, number),
+    }
 }
 
 const REPLICAS: &str = "index.number_of_replicas";
 
 const SHARDS: &str = "index.number_of_shards";
 
-// A task, and why it is refused where it is, on the state in which the index "taken" has the alias "other".
-const CASES: [(Act, &str, &str, u64, Option<TaskRefusal>); 35] = [
-    (Act::Delete, "taken", "", 0, None),
-    (Act::Delete, "other", "", 0, Some(TaskRefusal::NotFound)),
-    (Act::Set, "taken", REPLICAS, 1000, None),
-    (Act::Set, "b", "index.codec", 1001, Some(TaskRefusal::NotFound)),
-    (Act::Set, "taken", "index.codec", 1, Some(TaskRefusal::BadValue)),
-    (Act::Set, "taken", SHARDS, 1001, Some(TaskRefusal::FinalSetting)),
-    (Act::Set, "taken", REPLICAS, 1001, Some(TaskRefusal::BadValue)),
-    (Act::Open, "taken", "", 0, None),
-    (Act::Open, "b", "", 0, Some(TaskRefusal::NotFound)),
-    (Act::Shut, "b", "", 0, Some(TaskRefusal::NotFound)),
-    (Act::Add, "taken", "x", 0, None),
-    (Act::Add, "taken", "other", 0, None),
-    (Act::Add, "b", "X", 0, Some(TaskRefusal::NotFound)),
-    (Act::Add, "taken", "X", 0, Some(TaskRefusal::InvalidName)),
-    (Act::Add, "taken", "taken", 0, Some(TaskRefusal::AliasClash)),
-    (Act::Remove, "taken", "other", 0, None),
-    (Act::Remove, "b", "other", 0, Some(TaskRefusal::NotFound)),
-    (Act::Remove, "taken", "x", 0, Some(TaskRefusal::NotFound)),
-    (Act::Put, "k.0_-", "", 1024, None),
-    (Act::Put, "k", "", 1025, Some(TaskRefusal::BadValue)),
-    (Act::Put, "0", "", 0, None),
-    (Act::Put, "", "", 1, Some(TaskRefusal::BadValue)),
-    (Act::Put, ".k", "", 1, Some(TaskRefusal::BadValue)),
-    (Act::Put, "kK", "", 1, Some(TaskRefusal::BadValue)),
-    (Act::PutLong, "v", "", 255, None),
-    (Act::PutLong, "v", "", 256, Some(TaskRefusal::BadValue)),
-    (Act::Clear, "k", "", 0, None),
-    (Act::Clear, "-k", "", 0, Some(TaskRefusal::BadValue)),
-    (Act::Join, "n1", "", 1, None),
-    (Act::Join, "n0", "", 0, Some(TaskRefusal::NodeKnown)),
-    (Act::Leave, "n1", "", 0, Some(TaskRefusal::NodeUnknown)),
-    (Act::Leave, "n0", "", 0, Some(TaskRefusal::MasterMayNotLeave)),
-    (Act::Reelect, "", "", 0, None),
-    (Act::Create, "other", "", 0, Some(TaskRefusal::AliasClash)),
-    (Act::Create, "b", "", 0, None),
+// A task, and why it is refused on the state in which the index "taken" has the alias "other".
+const CASES: [(Act, &str, &str, u64, TaskRefusal); 18] = [
+    (Act::Delete, "other", "", 0, TaskRefusal::NotFound),
+    (Act::Set, "b", "codec", 1001, TaskRefusal::NotFound),
+    (Act::Set, "taken", "codec", 1, TaskRefusal::BadValue),
+    (Act::Set, "taken", SHARDS, 1001, TaskRefusal::FinalSetting),
+    (Act::Set, "taken", REPLICAS, 1001, TaskRefusal::BadValue),
+    (Act::Open, "b", "", 0, TaskRefusal::NotFound),
+    (Act::Add, "b", "X", 0, TaskRefusal::NotFound),
+    (Act::Add, "taken", "X", 0, TaskRefusal::InvalidName),
+    (Act::Add, "taken", "taken", 0, TaskRefusal::AliasClash),
+    (Act::Remove, "b", "other", 0, TaskRefusal::NotFound),
+    (Act::Remove, "taken", "x", 0, TaskRefusal::NotFound),
+    (Act::Put, "k", "", 1025, TaskRefusal::BadValue),
+    (Act::Put, ".k", "", 1, TaskRefusal::BadValue),
+    (Act::PutLong, "v", "", 256, TaskRefusal::BadValue),
+    (Act::Clear, "kK", "", 0, TaskRefusal::BadValue),
+    (Act::Join, "n0", "", 0, TaskRefusal::NodeKnown),
+    (Act::Leave, "n1", "", 0, TaskRefusal::NodeUnknown),
+    (Act::Leave, "n0", "", 0, TaskRefusal::MasterMayNotLeave),
 ];
 
-fn verdict_of(refusal: Option<TaskRefusal>) -> Verdict {
-    match refusal {
-        None => Verdict::Success,
-        Some(refusal) => Verdict::Refused(refusal),
-    }
+// Why a task is refused on a state, and whether that leaves the state as it was.
+fn refusal_of(
+    rt: &impl Abort,
+    alloc: Global,
+    state: &ClusterState,
+    kind: Kind,
+    task: Task,
+) -> Result<Option<(TaskRefusal, bool)>, Fail> {
+    let tasks = vec![in alloc; task]?;
+    let (made, marks) = run(rt, alloc, kind, state, tasks)?;
+    Ok(match marks.get(0) {
+        None => None,
+        Some(mark) => match mark.verdict() {
+            Verdict::Success => None,
+            Verdict::Refused(refusal) => Some((refusal, &made == state)),
+        },
+    })
 }
 
 #[test]
@@ -398,14 +412,9 @@ fn a_task_is_refused_for_the_first_check_that_fails(rt: HostRuntime) -> Result<(
     let alloc = rt.alloc();
     let state = demo(alloc)?;
     for (act, name, other, number, refusal) in CASES {
-        let tasks = vec![in alloc; asked(alloc, act, name, other, number)?]?;
-        let (made, marks) = run(&rt, alloc, kind_of(act), &state, tasks)?;
-        let verdict = match marks.get(0) {
-            None => None,
-            Some(mark) => Some(mark.verdict()),
-        };
-        assert!(rt; verdict == Some(verdict_of(refusal)), "at {name} and {other}");
-        assert!(rt; refusal.is_none() || made == state, "at {name} and {other}");
+        let task = asked(alloc, act, name, other, number)?;
+        let found = refusal_of(&rt, alloc, &state, kind_of(act), task)?;
+        assert!(rt; found == Some((refusal, true)), "at {name} and {other}");
     }
     Ok(())
 }
@@ -438,14 +447,24 @@ const STEPS: [(Act, &str, &str, u64); 20] = [
 const AFTER: &str =
     r#"{"cluster":"demo","id":1,"master":"n0","metadata":{"created":3,"indices":{"a":{"aliases":["x"],"aliases_version":2,"id":2,"open":false,"replicas":3,"settings_version":2,"shards":2,"version":4},"taken":{"aliases":[],"aliases_version":3,"id":1,"open":true,"replicas":1,"settings_version":1,"shards":1,"version":3}},"settings":{"k":"vv"},"version":1},"nodes":{"n0":{"eligible":true},"n1":{"eligible":false},"n2":{"eligible":true}},"term":2,"version":1}"#;
 
+fn after(
+    rt: &impl Abort,
+    alloc: Global,
+    state: &ClusterState,
+    kind: Kind,
+    task: Task,
+) -> Result<ClusterState, Fail> {
+    let (made, _) = run(rt, alloc, kind, state, vec![in alloc; task]?)?;
+    Ok(made)
+}
+
 #[test]
 fn tasks_change_what_they_name(rt: HostRuntime) -> Result<(), Fail> {
     let alloc = rt.alloc();
     let mut state = demo(alloc)?;
     for (act, name, other, number) in STEPS {
-        let tasks = vec![in alloc; asked(alloc, act, name, other, number)?]?;
-        let (made, _) = run(&rt, alloc, kind_of(act), &state, tasks)?;
-        state = made;
+        let task = asked(alloc, act, name, other, number)?;
+        state = after(&rt, alloc, &state, kind_of(act), task)?;
     }
     assert_eq!(rt; to_json(alloc, &state)?.as_str(), AFTER);
     Ok(())

@@ -23,7 +23,7 @@ right_false false b e = e
 right_false true false e = refl
 right_false true true e = e
 
-both_false : (a b : Bool) → a ≡ false → b ≡ false → (a || b) ≡ false
+pub both_false : (a b : Bool) → a ≡ false → b ≡ false → (a || b) ≡ false
 both_false a b p q = λ i. p i || q i
 
 by_order : (k : List ℕ) (d : Data) (l : List ℕ) (e : Data) (ms : Members) → has_float d ≡ false → members_have_float (member l e ms) ≡ false
@@ -40,7 +40,7 @@ put_has_no_float k d (member l e ms) p q =
     let rest = right_false (has_float e) (members_have_float ms) q in
     by_order k d l e ms p q rest (put_has_no_float k d ms p rest) (slice_cmp nat_cmp k l)
 
-with_members_has_no_float : {V : Type 0} (data_of : V → Data) → ((v : V) → has_float (data_of v) ≡ false)
+pub with_members_has_no_float : {V : Type 0} (data_of : V → Data) → ((v : V) → has_float (data_of v) ≡ false)
     → (pairs : List (List ℕ × V)) (ms : Members) → members_have_float ms ≡ false → members_have_float (with_members data_of pairs ms) ≡ false
 with_members_has_no_float data_of each [] ms q = q
 with_members_has_no_float data_of each (p ∷ ps) ms q = with_members_has_no_float data_of each ps (put p.0 (data_of p.1) ms) (put_has_no_float p.0 (data_of p.1) ms (each p.1) q)

@@ -372,15 +372,33 @@ fn a_predicate_is_met_by_the_state_that_it_describes(rt: HostRuntime) -> Result<
     let alloc = rt.alloc();
     let state = full(alloc)?;
     for (place, (_, name, _, _, met)) in PREDS.iter().enumerate() {
-        assert!(rt; pred_of(alloc, place)?.test(&state) == *met, "{place} at {name}");
+        assert!(rt;
+            pred_of(alloc, place)?.test(&state) == *met,
+            "{place} at {name}"
+        );
         let twice = not(alloc, not(alloc, pred_of(alloc, place)?)?)?;
         assert!(rt; twice.test(&state) == *met, "not not {place}");
-        assert!(rt; not(alloc, pred_of(alloc, place)?)?.test(&state) != *met, "not {place}");
+        assert!(rt;
+            not(alloc, pred_of(alloc, place)?)?.test(&state) != *met,
+            "not {place}"
+        );
         // beside one that is met and one that isn't
-        assert!(rt; Pred::All(two(alloc, 0, place)?).test(&state) == *met, "all {place}");
-        assert!(rt; !Pred::All(two(alloc, place, 1)?).test(&state), "all {place}");
-        assert!(rt; Pred::Any(two(alloc, 1, place)?).test(&state) == *met, "any {place}");
-        assert!(rt; Pred::Any(two(alloc, place, 0)?).test(&state), "any {place}");
+        assert!(rt;
+            Pred::All(two(alloc, 0, place)?).test(&state) == *met,
+            "all {place}"
+        );
+        assert!(rt;
+            !Pred::All(two(alloc, place, 1)?).test(&state),
+            "all {place}"
+        );
+        assert!(rt;
+            Pred::Any(two(alloc, 1, place)?).test(&state) == *met,
+            "any {place}"
+        );
+        assert!(rt;
+            Pred::Any(two(alloc, place, 0)?).test(&state),
+            "any {place}"
+        );
     }
     Ok(())
 }
@@ -420,7 +438,11 @@ fn a_look_finds_what_is_there(rt: HostRuntime) -> Result<(), Fail> {
     assert!(rt; both == names(alloc, &["b", "logs-0"])?);
     let value = lookup(alloc, &state, &Look::Setting(text(alloc, "k2")?))?;
     assert!(rt; value == Found::Value(text(alloc, "é")?));
-    for look in [Look::Index(text(alloc, "a")?), Look::Alias(text(alloc, "b2")?), Look::Setting(text(alloc, "k")?)] {
+    for look in [
+        Look::Index(text(alloc, "a")?),
+        Look::Alias(text(alloc, "b2")?),
+        Look::Setting(text(alloc, "k")?),
+    ] {
         assert!(rt; lookup(alloc, &state, &look)? == Found::Missing);
     }
     assert!(rt; zero_meets(alloc, 0)? && !zero_meets(alloc, 1)?);

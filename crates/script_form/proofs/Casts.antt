@@ -1,7 +1,7 @@
 -- What is valid among the nodes, queues and clients of one script is so in every script that has the same.
-use Rattle.std.proofs.Common.{◌≡◌, ℕ, true, List, [], ◌∷◌, ◌++◌, Some, None, length, refl, sym, arith}
+use Rattle.std.proofs.Common.{◌≡◌, true, List, [], ◌∷◌, ◌++◌, Some, None, refl, sym, arith}
 use Rattle.std.proofs.lemmas.Grind.{common_steps}
-use Rattle.std.specs.Prelude.{Bool, IsTrue, ◌&&◌, slice_get, Option}
+use Rattle.std.specs.Prelude.{Bool, ◌&&◌, slice_get, Option}
 use Rattle.std.specs.List.{list_all}
 use Rattle.std.proofs.lemmas.Bool.{and_parts}
 use Rattle.executors.specs.declared.faults.Fault.{Fault}

@@ -1,7 +1,7 @@
 -- At most one step of a script closes, and steps stay valid as one more is added.
 use Rattle.std.proofs.Common.{◌≡◌, ℕ, ◌+◌, ◌≤◌, true, false, List, [], ◌∷◌, ◌++◌, refl, arith}
-use Rattle.std.specs.Prelude.{Bool, IsTrue, not, ◌&&◌, ◌||◌, count_by, flat_map, if◌then◌else◌}
-use Rattle.std.specs.List.{list_all, list_any}
+use Rattle.std.specs.Prelude.{Bool, not, ◌&&◌, ◌||◌, count_by, flat_map}
+use Rattle.std.specs.List.{list_any}
 use Rattle.std.proofs.lemmas.Bool.{and_parts}
 use Rattle.std.proofs.lemmas.Grind.{common_steps}
 use Rattle.executors.specs.declared.scripts.Script.{Script}

@@ -1,6 +1,6 @@
 -- How deep predicates nest, and what a predicate says that may nest so deep.
 use Rattle.std.proofs.Common.{◌≡◌, ℕ, zero, suc, ◌≤◌, ◌<◌, ◌-◌, true, List, [], ◌∷◌, ◌++◌, refl, arith}
-use Rattle.std.specs.Prelude.{map, max, IsTrue, nat_le}
+use Rattle.std.specs.Prelude.{map}
 use Rattle.std.specs.List.{list_all}
 use Rattle.std.proofs.lemmas.Grind.{common_steps}
 use Rattle.meta_state.specs.declared.predicates.Pred.{Pred}

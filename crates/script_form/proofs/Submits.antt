@@ -1,14 +1,12 @@
 -- A submit, and a reference to an earlier step, as they were read.
-use Rattle.std.proofs.Common.{◌≡◌, ℕ, ◌<◌, true, List, [], Some, None, length, refl, arith}
-use Rattle.std.specs.Prelude.{IsTrue, ◌&&◌, ◌==◌, slice_get, Option, option_map}
-use Rattle.std.proofs.lemmas.Bool.{and_parts}
+use Rattle.std.proofs.Common.{◌≡◌, ℕ, true, List, [], Some, None, refl, arith}
+use Rattle.std.specs.Prelude.{slice_get, Option, option_map}
 use Rattle.std.proofs.lemmas.Grind.{common_steps}
 use Rattle.executors.specs.declared.kinds.Kind.{Kind}
 use Rattle.executors.specs.declared.queues.QueueSpec.{QueueSpec}
 use Rattle.executors.specs.declared.scripts.Script.{Script}
 use Rattle.executors.specs.declared.scripts.ScriptNode.{ScriptNode}
 use Rattle.executors.specs.declared.steps.Ack.{Ack}
-use Rattle.executors.specs.declared.steps.Step.{Step}
 use Rattle.executors.specs.declared.steps.Step.TheVariants as step
 use Rattle.executors.specs.declared.tasks.Task.{Task}
 use Rattle.executors.specs.Scripts.{is_ack, is_if_some, is_queue_for, is_step, is_task_for, is_time, is_timeout}

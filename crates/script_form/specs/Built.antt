@@ -1,6 +1,6 @@
 -- What is built so far: a replay performs a script that holds nothing else. This is the one list of it; each later
 -- stage takes a line of it away. It is this project's own.
-use Rattle.std.specs.Prelude.{ℕ, Bool, true, false, ◌&&◌, ◌==◌, Some, None, Option, length, nat_le, slice_get, IsTrue, is_none}
+use Rattle.std.specs.Prelude.{Bool, true, false, ◌&&◌, ◌==◌, Some, None, Option, length, nat_le, slice_get, IsTrue, is_none}
 use Rattle.std.specs.List.{list_all}
 use Rattle.executors.specs.declared.kinds.Kind.{Kind}
 use Rattle.executors.specs.declared.kinds.Kind.TheVariants as kind

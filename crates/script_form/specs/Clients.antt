@@ -1,6 +1,6 @@
 -- The clients of a script: at most 32, each with at most 4,096 steps. One step of a script may close. The limits are
 -- this project's own.
-use Rattle.std.specs.Prelude.{◌≡◌, ℕ, ◌+◌, ◌≤◌, Bool, ◌&&◌, ◌||◌, List, [], Result, Ok, Err, count_by, flat_map, if◌then◌else◌}
+use Rattle.std.specs.Prelude.{ℕ, ◌+◌, ◌≤◌, Bool, ◌&&◌, ◌||◌, List, [], Result, Ok, count_by, flat_map, if◌then◌else◌}
 use Rattle.std.specs.List.{list_any}
 use Rattle.serde_json.specs.Data.{Data}
 use Rattle.executors.specs.declared.queues.QueueSpec.{QueueSpec}

@@ -1,7 +1,7 @@
 -- The nodes of a script: 1 to 30, each of a name of its own. The first one is the master: it can vote, and is in the
 -- first state. The rules are this project's own.
-use Rattle.std.specs.Prelude.{◌≡◌, ℕ, ◌≤◌, Bool, true, not, ◌&&◌, List, [], ◌∷◌, Some, None, Option, Result, Ok, Err, codes, bytes_eq, length, map, if◌then◌else◌, IsTrue}
-use Rattle.std.specs.List.{list_all, list_any}
+use Rattle.std.specs.Prelude.{ℕ, ◌≤◌, Bool, true, ◌&&◌, List, [], ◌∷◌, Some, None, Option, Result, Ok, codes, bytes_eq, length, if◌then◌else◌, IsTrue}
+use Rattle.std.specs.List.{list_any}
 use Rattle.serde_json.specs.Data.{Data}
 use Rattle.executors.specs.declared.scripts.ScriptNode.{ScriptNode}
 use Rattle.executors.specs.Scripts.{has_master}

@@ -1,6 +1,6 @@
 -- Reading the parts of a JSON value. JSON is RFC 8259, read as serde_json reads it: of a member that stands twice in an
 -- object the last one counts. The checks and their order are this project's own.
-use Rattle.std.specs.Prelude.{◌≡◌, ℕ, Bool, true, false, ◌&&◌, List, [], ◌∷◌, ◌++◌, Some, None, Option, Result, Ok, Err, length, nat_lt, nat_le, option_and_then, bytes_eq, if◌then◌else◌}
+use Rattle.std.specs.Prelude.{ℕ, Bool, true, ◌&&◌, List, [], ◌∷◌, ◌++◌, Some, None, Option, Result, Ok, length, nat_lt, option_and_then, bytes_eq, if◌then◌else◌}
 use Rattle.std.specs.List.{list_any}
 use Rattle.std.specs.Str.{is_utf8}
 use Rattle.serde_json.specs.Data.{Data, Items, no_items, item, Members, no_members, member}
@@ -9,7 +9,6 @@ use Rattle.serde_json.specs.Read.{read}
 use Rattle.executors.specs.Scripts.{is_name, is_time, is_timeout}
 use Rattle.script_form.specs.declared.limits.LimitName.{LimitName}
 use Rattle.script_form.specs.declared.misfits.Misfit.{Misfit}
-use Rattle.script_form.specs.declared.rules.Rule.{Rule}
 use Rattle.script_form.specs.declared.rules.Rule.TheVariants.{WrongType, Unknown, Missing, Range, Name, Value}
 use Rattle.script_form.specs.Misfits.{◌>>=◌, bad, over, if_so, some_or, at_member, at_place, within}
 

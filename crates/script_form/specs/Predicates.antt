@@ -1,6 +1,6 @@
 -- A predicate: an object of one member, which says what is to be met. They nest at most 16 deep, the outermost being 1.
 -- The form is this project's own.
-use Rattle.std.specs.Prelude.{◌≡◌, ℕ, zero, suc, List, [], ◌∷◌, Some, None, Option, Result, Ok, Err, codes, bytes_eq, length, nat_le, option_map, if◌then◌else◌}
+use Rattle.std.specs.Prelude.{ℕ, zero, suc, List, [], ◌∷◌, Some, None, Option, Result, Ok, codes, bytes_eq, if◌then◌else◌}
 use Rattle.serde_json.specs.Data.{Data, Members, no_members, member}
 use Rattle.serde_json.specs.Find.{as_object}
 use Rattle.meta_state.specs.declared.predicates.Pred.{Pred}

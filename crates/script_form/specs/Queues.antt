@@ -1,6 +1,6 @@
 -- The queues of a script: at most 64, each of a name of its own, with an executor and a priority. The words are this
 -- project's own; the priorities are those of Elasticsearch (`Priority`).
-use Rattle.std.specs.Prelude.{◌≡◌, ℕ, ◌+◌, Bool, List, [], ◌∷◌, Some, None, Option, Result, Ok, Err, codes, bytes_eq, option_map, slice_get, if◌then◌else◌}
+use Rattle.std.specs.Prelude.{ℕ, ◌+◌, Bool, List, [], ◌∷◌, Some, None, Option, Result, Ok, codes, bytes_eq, option_map, slice_get, if◌then◌else◌}
 use Rattle.std.specs.List.{list_any}
 use Rattle.serde_json.specs.Data.{Data}
 use Rattle.executors.specs.declared.kinds.Kind.{Kind}

@@ -1,12 +1,11 @@
 -- The steps of a client, by what they do. A step may refer to the steps of its client before it. The form is this
 -- project's own.
-use Rattle.std.specs.Prelude.{◌≡◌, ℕ, ◌==◌, Bool, false, List, [], ◌∷◌, ◌++◌, Some, None, Option, Result, Ok, Err, codes, bytes_eq, length, nat_lt, slice_get, if◌then◌else◌, IsTrue}
+use Rattle.std.specs.Prelude.{◌≡◌, ℕ, ◌==◌, false, List, [], ◌∷◌, Some, None, Option, Result, Ok, codes, bytes_eq, length, nat_lt, slice_get, if◌then◌else◌, IsTrue}
 use Rattle.std.specs.List.{list_any}
 use Rattle.serde_json.specs.Data.{Data, Items}
 use Rattle.serde_json.specs.Find.{get, as_str, as_array}
 use Rattle.meta_state.specs.declared.looks.Look.{Look}
 use Rattle.meta_state.specs.declared.looks.Look.TheVariants as look
-use Rattle.executors.specs.declared.kinds.Kind.{Kind}
 use Rattle.executors.specs.declared.queues.QueueSpec.{QueueSpec}
 use Rattle.executors.specs.declared.scripts.ScriptNode.{ScriptNode}
 use Rattle.executors.specs.declared.steps.Ack.{Ack}
@@ -20,7 +19,7 @@ use Rattle.script_form.specs.declared.misfits.Misfit.{Misfit}
 use Rattle.script_form.specs.declared.rules.Rule.TheVariants.{WrongType, Missing, Value, Reference, Twice}
 use Rattle.script_form.specs.Misfits.{◌>>=◌, bad, if_so, at_member, within}
 use Rattle.script_form.specs.Nodes.{node_named}
-use Rattle.script_form.specs.Parts.{object_of, check_members, required, optional, list_of, items_list, each, text_of, whole_of, time_of, positive_of, word_of}
+use Rattle.script_form.specs.Parts.{object_of, check_members, required, optional, items_list, each, text_of, whole_of, time_of, positive_of, word_of}
 use Rattle.script_form.specs.Predicates.{pred_of, thens_of}
 use Rattle.script_form.specs.Queues.{queue_named}
 use Rattle.script_form.specs.Tasks.{task_of}

@@ -1,8 +1,7 @@
 -- The task of a submit, whose members are told by the queue's executor. The form is this project's own.
-use Rattle.std.specs.Prelude.{◌≡◌, ℕ, Bool, true, false, List, [], ◌∷◌, Some, None, Option, Result, Ok, Err, codes, bytes_eq, if◌then◌else◌}
+use Rattle.std.specs.Prelude.{ℕ, Bool, true, false, List, [], ◌∷◌, Some, None, Option, Result, Ok, codes, bytes_eq, if◌then◌else◌}
 use Rattle.serde_json.specs.Data.{Data}
 use Rattle.serde_json.specs.Find.{as_null, as_str}
-use Rattle.meta_state.specs.declared.nodes.NodeInfo.{NodeInfo}
 use Rattle.executors.specs.declared.kinds.Kind.{Kind}
 use Rattle.executors.specs.declared.kinds.Kind.TheVariants as kind
 use Rattle.executors.specs.declared.scripts.ScriptNode.{ScriptNode}

@@ -1,6 +1,6 @@
 -- The turns of a schedule, at most 65,536: `m` for the master, `c` and a number for a client, `n:` and a name for a
 -- node. The form is this project's own.
-use Rattle.std.specs.Prelude.{◌≡◌, ℕ, ◌+◌, ◌-◌, ◌*◌, ◌==◌, Bool, false, not, ◌&&◌, List, [], ◌∷◌, Some, None, Option, Result, Ok, Err, length, min, fold, nat_lt, if◌then◌else◌}
+use Rattle.std.specs.Prelude.{ℕ, ◌+◌, ◌-◌, ◌*◌, ◌==◌, Bool, false, not, ◌&&◌, List, [], ◌∷◌, Some, None, Option, Result, Ok, min, fold, nat_lt, if◌then◌else◌}
 use Rattle.std.specs.List.{list_all}
 use Rattle.serde_json.specs.Data.{Data}
 use Rattle.executors.specs.declared.scripts.ScriptNode.{ScriptNode}

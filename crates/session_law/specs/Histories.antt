@@ -106,7 +106,7 @@ abbrev pub AreApart : List Placed → Type 0
 AreApart [] = Unit {0}
 AreApart (placed ∷ more) = AllByRecursion (IsApart placed) more × AreApart more
 
--- the batches are a serial history of the script
+-- the batches of a book: a serial history of the script, but that what a client had seen is only bounded
 pub record IsSerial (script : Script) (batches : List Batch) : Type 0 where
   pub results : AreResults script (first_world script) batches
   pub filled : AllByRecursion (λ b. 0 < length b.entries) batches

@@ -1,5 +1,5 @@
 -- The lines of a report, each ended by a line feed. Their form is this project's own.
-use Rattle.std.specs.Prelude.{ℕ, ◌+◌, Bool, true, false, List, [], ◌∷◌, ◌++◌, codes, decimal, if◌then◌else◌}
+use Rattle.std.specs.Prelude.{ℕ, ◌+◌, List, [], ◌∷◌, ◌++◌, codes, decimal}
 use Rattle.meta_state.specs.declared.states.ClusterState.{ClusterState}
 use Rattle.meta_state.specs.Json.{state_json}
 use Rattle.executors.specs.declared.ends.TaskEnd.{TaskEnd}
@@ -11,6 +11,7 @@ use Rattle.session_law.specs.declared.batches.BatchResult.{BatchResult}
 use Rattle.session_law.specs.declared.batches.BatchResult.TheVariants as result
 use Rattle.session_law.specs.declared.batches.Entry.{Entry}
 use Rattle.session_law.specs.declared.replies.Reply.{Reply}
+use Rattle.session_law.specs.Joining.{list_text}
 
 abbrev pub line_end : List ℕ
 line_end = codes "\n"
@@ -20,14 +21,6 @@ line_end = codes "\n"
 -- `client.step/seen`
 unfoldable pub entry_text : Entry → List ℕ
 entry_text entry = decimal entry.client ++ (codes "." ++ (decimal entry.step ++ (codes "/" ++ decimal entry.seen)))
-
-abbrev pub comma_if : Bool → List ℕ
-comma_if later = if later then codes "," else []
-
--- joined by commas
-abbrev pub entries_text : Bool → List Entry → List ℕ
-entries_text later [] = []
-entries_text later (entry ∷ entries) = comma_if later ++ (entry_text entry ++ entries_text true entries)
 
 -- a batch that its executor failed
 abbrev pub failure_text : ℕ → TaskRefusal → List ℕ
@@ -45,7 +38,7 @@ result_text (result.PublishFailed id diffs fulls accepted) =
 unfoldable pub batch_line : ℕ → Batch → List ℕ
 batch_line number batch =
     codes "batch " ++ (decimal number ++ (codes " queue " ++ (batch.queue ++ (codes " at " ++ (decimal batch.at ++ (codes " tasks " ++
-    (entries_text false batch.entries ++ (codes " " ++ (result_text batch.result ++ line_end)))))))))
+    (list_text entry_text batch.entries ++ (codes " " ++ (result_text batch.result ++ line_end)))))))))
 
 abbrev pub batch_lines : ℕ → List Batch → List ℕ
 batch_lines number [] = []

@@ -1,7 +1,8 @@
-ghost use Rattle.std.specs.Prelude.{◌≡◌, false, ◌++◌, ◌+◌, ◌<◌, ◌^◌, OnOk, length, string_bytes};
-ghost use Rattle.session_law.specs.Lines.{batch_line, batch_lines, comma_if, end_text, entries_text, entry_text, failure_text, reply_line, reply_lines, result_text, state_line};
+ghost use Rattle.std.specs.Prelude.{◌≡◌, ◌++◌, ◌+◌, ◌<◌, ◌^◌, OnOk, length, string_bytes};
+ghost use Rattle.session_law.specs.Lines.{batch_line, batch_lines, end_text, failure_text, reply_line, reply_lines, result_text, state_line};
 
-use crate::batches::{Batch, BatchResult, Entry};
+use crate::batches::{Batch, BatchResult};
+use crate::joining::write_entries;
 use crate::replies::Reply;
 use executors::{TaskEnd, TaskRefusal};
 use meta_state::{ClusterState, to_json};
@@ -9,38 +10,6 @@ use plain_data::OutOfMemory;
 use std::alloc::Global;
 
 // Each function adds its piece of the report to `out`. After want of memory `out` is to be given up.
-
-#[tactic(auto, unfolding(crate::specs::Lines::entry_text))]
-fn write_entry(out: &mut String, entry: &Entry) -> Result<(), OutOfMemory>
-    ensures { OnOk result (string_bytes out.new ≡ string_bytes out.old ++ entry_text entry.now) }
-{
-    let client = entry.client;
-    let step = entry.step;
-    let seen = entry.seen;
-    write!(out, "{client}.{step}/{seen}")?;
-    Ok(())
-}
-
-fn write_comma(out: &mut String, later: bool) -> Result<(), OutOfMemory>
-    ensures { OnOk result (string_bytes out.new ≡ string_bytes out.old ++ comma_if later) }
-{
-    if later {
-        out.push_str(",")?;
-    }
-    Ok(())
-}
-
-fn write_entries(out: &mut String, entries: &[Entry]) -> Result<(), OutOfMemory>
-    ensures { OnOk result (string_bytes out.new ≡ string_bytes out.old ++ entries_text false entries.now) }
-{
-    let mut later = false;
-    for entry in entries {
-        write_comma(out, later)?;
-        write_entry(out, entry)?;
-        later = true;
-    }
-    Ok(())
-}
 
 fn write_failure(out: &mut String, position: u32, refusal: TaskRefusal) -> Result<(), OutOfMemory>
     ensures { OnOk result (string_bytes out.new ≡ string_bytes out.old ++ failure_text position refusal) }

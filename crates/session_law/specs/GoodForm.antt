@@ -1,0 +1,88 @@
+-- Good form: what a session must be so that its report tells it whole. All names are names, lists of names are in byte
+-- order, and the lists of the session are in the order of their lines. It is this project's own.
+use Rattle.std.specs.Prelude.{ℕ, ◌&&◌, Bool, true, List, is_none, map, bytes_eq, IsTrue}
+use Rattle.std.specs.Cmp.Lexicographic.{slice_cmp}
+use Rattle.std.specs.List.{list_all}
+use Rattle.std.specs.Map.{keys_of}
+use Rattle.std.specs.Ordering.{nat_cmp, is_lt}
+use Rattle.meta_state.specs.declared.indices.IndexMetadata.{IndexMetadata}
+use Rattle.meta_state.specs.declared.looks.Found.{Found}
+use Rattle.meta_state.specs.declared.looks.Found.TheVariants as found
+use Rattle.meta_state.specs.declared.nodes.NodeInfo.{NodeInfo}
+use Rattle.meta_state.specs.declared.states.ClusterState.{ClusterState}
+use Rattle.meta_state.specs.Names.{name_fault}
+use Rattle.executors.specs.Scripts.{are_distinct, is_name}
+use Rattle.executors.specs.SettingTasks.{is_key}
+use Rattle.session_law.specs.declared.records.ApplyEnd.{ApplyEnd}
+use Rattle.session_law.specs.declared.records.ApplyEnd.TheVariants as end
+use Rattle.session_law.specs.declared.records.Change.{Change}
+use Rattle.session_law.specs.declared.records.NodeRec.{NodeRec}
+use Rattle.session_law.specs.declared.records.View.{View}
+use Rattle.session_law.specs.declared.sessions.Session.{Session}
+use Rattle.session_law.specs.Lawful.{AreInOrder, is_rising}
+
+-- ---- names
+
+-- a name that an index or an alias may have
+abbrev pub is_index_name : List ℕ → Bool
+is_index_name name = is_none (name_fault name)
+
+abbrev pub is_name_before : List ℕ → List ℕ → Bool
+is_name_before a b = is_lt (slice_cmp nat_cmp a b)
+
+-- names of a kind in byte order, none twice
+abbrev pub are_listed : (List ℕ → Bool) → List (List ℕ) → Bool
+are_listed test names = list_all test names && is_rising is_name_before names
+
+-- ---- states
+
+abbrev pub is_named_node : List ℕ × NodeInfo → Bool
+is_named_node p = is_name p.0 && bytes_eq p.0 p.1.name
+
+abbrev pub is_named_index : List ℕ × IndexMetadata → Bool
+is_named_index p = is_index_name p.0 && list_all is_index_name (keys_of p.1.aliases)
+
+-- a state whose names are names, with each node under its own
+pub record IsNamedState (state : ClusterState) : Type 0 where
+  pub cluster : IsTrue (is_name state.cluster)
+  pub master : IsTrue (is_name state.master)
+  pub nodes : IsTrue (list_all is_named_node state.nodes)
+  pub indices : IsTrue (list_all is_named_index state.metadata.indices)
+  pub settings : IsTrue (list_all is_key (keys_of state.metadata.settings))
+
+-- ---- records of nodes
+
+abbrev pub is_good_change : Change → Bool
+is_good_change change =
+    are_listed is_index_name change.created && (are_listed is_index_name change.deleted && (are_listed is_index_name change.changed &&
+    (are_listed is_name change.joined && (are_listed is_name change.left && are_listed is_key change.settings))))
+
+abbrev pub is_good_apply : ApplyEnd → Bool
+is_good_apply end.Failed = true
+is_good_apply (end.Applied high normal low listeners change) = is_good_change change
+
+abbrev pub is_good_alias : List ℕ × List (List ℕ) → Bool
+is_good_alias p = is_index_name p.0 && are_listed is_index_name p.1
+
+abbrev pub is_good_view : View → Bool
+is_good_view view =
+    list_all is_good_alias view.aliases && (list_all is_index_name (keys_of view.indices) && list_all is_key (keys_of view.settings))
+
+abbrev pub is_good_node : NodeRec → Bool
+is_good_node node = is_name node.node && (list_all (λ a. is_good_apply a.end) node.applies && is_good_view node.view)
+
+-- ---- reads
+
+abbrev pub is_good_found : Found → Bool
+is_good_found (found.Names names) = are_listed is_index_name names
+is_good_found _ = true
+
+-- ---- the whole
+
+pub record IsGoodForm (session : Session) : Type 0 where
+  pub queues : IsTrue (list_all (λ b. is_name b.queue) session.batches)
+  pub order : AreInOrder session
+  pub reads : IsTrue (list_all (λ r. is_good_found r.found) session.reads)
+  pub nodes : IsTrue (list_all is_good_node session.nodes)
+  pub nodes_distinct : IsTrue (are_distinct (map (λ r. r.node) session.nodes))
+  pub last : IsNamedState session.last

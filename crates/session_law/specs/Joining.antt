@@ -1,0 +1,18 @@
+-- A list in a report: the texts of its items joined by commas, and `-` where there is none. The form is this project's
+-- own.
+use Rattle.std.specs.Prelude.{ℕ, List, [], ◌∷◌, ◌++◌, codes, decimal}
+
+-- each item behind a comma
+abbrev pub more_text : {A : Type 0} → (A → List ℕ) → List A → List ℕ
+more_text text_of [] = []
+more_text text_of (item ∷ items) = codes "," ++ (text_of item ++ more_text text_of items)
+
+abbrev pub list_text : {A : Type 0} → (A → List ℕ) → List A → List ℕ
+list_text text_of [] = codes "-"
+list_text text_of (item ∷ items) = text_of item ++ more_text text_of items
+
+abbrev pub numbers_text : List ℕ → List ℕ
+numbers_text numbers = list_text decimal numbers
+
+abbrev pub names_text : List (List ℕ) → List ℕ
+names_text names = list_text (λ name. name) names

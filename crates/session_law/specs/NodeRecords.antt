@@ -1,0 +1,127 @@
+-- What a node is handed, what it applies, and its record. A node is handed the commit of each state that it accepted,
+-- but where its script lets the commit get lost, and applies each state that it is handed, but where its script lets it
+-- fail (Elasticsearch's `ClusterApplierService`; the faults, and what the record keeps, are this project's own).
+use Rattle.std.specs.Prelude.{ℕ, Bool, true, false, not, ◌&&◌, List, [], ◌∷◌, ◌++◌, Option, Some, None, filter, find, is_some, map, bytes_eq, if◌then◌else◌}
+use Rattle.plain_data.specs.Pairs.{lookup}
+use Rattle.meta_state.specs.declared.states.ClusterState.{ClusterState}
+use Rattle.meta_state.specs.States.{zero_state}
+use Rattle.executors.specs.declared.faults.FaultKind.{FaultKind}
+use Rattle.executors.specs.declared.faults.FaultKind.TheVariants as fault
+use Rattle.executors.specs.declared.scripts.Script.{Script}
+use Rattle.executors.specs.declared.scripts.ScriptNode.{ScriptNode}
+use Rattle.session_law.specs.declared.batches.Batch.{Batch}
+use Rattle.session_law.specs.declared.records.Apply.{Apply}
+use Rattle.session_law.specs.declared.records.ApplyEnd.TheVariants as end
+use Rattle.session_law.specs.declared.records.NodeRec.{NodeRec}
+use Rattle.session_law.specs.declared.worlds.NodeWorld.{NodeWorld}
+use Rattle.session_law.specs.declared.worlds.World.{World}
+use Rattle.session_law.specs.Changes.{change_between}
+use Rattle.session_law.specs.Committed.{is_published}
+use Rattle.session_law.specs.Histories.{after}
+use Rattle.session_law.specs.Publications.{fault_at}
+use Rattle.session_law.specs.Views.{views_of}
+use Rattle.session_law.specs.Worlds.{first_state_of, first_world}
+
+-- ---- handed
+
+-- a commit that a node is handed: its state, and at which publication to this node
+pub record Commit : Type 0 where
+  pub state : ClusterState
+  pub publication : ℕ
+
+-- whether a node that may have a fault at a publication accepts the state and is handed its commit
+abbrev pub is_handed_on : Option FaultKind → Bool
+is_handed_on None = true
+is_handed_on (Some fault.Apply) = true
+is_handed_on (Some fault.LostCommit) = false
+is_handed_on (Some fault.Unreachable) = false
+
+-- how many publications were sent to a node
+abbrev pub sent_to : List ℕ → List ScriptNode → List NodeWorld → ℕ
+sent_to name [] _ = 0
+sent_to name (node ∷ nodes) [] = 0
+sent_to name (node ∷ nodes) (has ∷ more) = if bytes_eq name node.name then has.sent else sent_to name nodes more
+
+-- what a node is handed of the state of the world after a batch, by how many publications were sent to it then
+abbrev pub handed_at : Script → List ℕ → ClusterState → ℕ → List Commit
+handed_at script name state publication =
+    if is_some (lookup name state.nodes) && is_handed_on (fault_at script.faults name publication)
+    then record { state = state; publication = publication } ∷ []
+    else []
+
+-- what a node is handed of one batch, by the world after it: of a batch that wasn't published nothing
+abbrev pub handed_of : Script → List ℕ → Batch → World → List Commit
+handed_of script name batch world =
+    if is_published batch.result then handed_at script name world.state (sent_to name script.nodes world.nodes) else []
+
+abbrev pub handed_on : Script → List ℕ → World → List Batch → List Commit
+handed_on script name world [] = []
+handed_on script name world (batch ∷ batches) =
+    handed_of script name batch (after script world batch) ++ handed_on script name (after script world batch) batches
+
+-- the commits that a node is handed, in order
+abbrev pub commits_to : Script → List Batch → List ℕ → List Commit
+commits_to script batches name = handed_on script name (first_world script) batches
+
+abbrev pub handed_to : Script → List Batch → List ℕ → List ℕ
+handed_to script batches name = map (λ c. c.state.version) (commits_to script batches name)
+
+-- ---- applied
+
+abbrev pub is_apply_fault : Option FaultKind → Bool
+is_apply_fault (Some fault.Apply) = true
+is_apply_fault _ = false
+
+abbrev pub does_fail : Script → List ℕ → Commit → Bool
+does_fail script name commit = is_apply_fault (fault_at script.faults name commit.publication)
+
+abbrev pub first_of : Script → Option ScriptNode → ClusterState
+first_of script None = zero_state script.cluster
+first_of script (Some node) = if node.member then first_state_of script else zero_state script.cluster
+
+-- the state that a node begins with
+abbrev pub first_at : Script → List ℕ → ClusterState
+first_at script name = first_of script (find (λ n. bytes_eq name n.name) script.nodes)
+
+-- the states that a node has, one after the other
+abbrev pub applied_states : Script → List Batch → List ℕ → List ClusterState
+applied_states script batches name =
+    first_at script name ∷ map (λ c. c.state) (filter (λ c. not (does_fail script name c)) (commits_to script batches name))
+
+abbrev pub applied_by : Script → List Batch → List ℕ → List ℕ
+applied_by script batches name = map (λ s. s.version) (applied_states script batches name)
+
+-- ---- the record
+
+abbrev pub failed_apply : ClusterState → ClusterState → Apply
+failed_apply old new = record { from = old.version; to = new.version; end = end.Failed }
+
+-- the appliers of high, normal and low priority run before the state is set, the listeners after it
+abbrev pub apply_of : ClusterState → ClusterState → Apply
+apply_of old new = record {
+  from = old.version;
+  to = new.version;
+  end = end.Applied old.version old.version old.version new.version (change_between old new);
+}
+
+-- the applies of commits by a node that has a state
+abbrev pub applies_from : Script → List ℕ → ClusterState → List Commit → List Apply
+applies_from script name old [] = []
+applies_from script name old (commit ∷ commits) =
+    if does_fail script name commit
+    then failed_apply old commit.state ∷ applies_from script name old commits
+    else apply_of old commit.state ∷ applies_from script name commit.state commits
+
+-- the last of some states
+abbrev pub latest : ClusterState → List ClusterState → ClusterState
+latest state [] = state
+latest state (next ∷ states) = latest next states
+
+unfoldable pub node_record : Script → List Batch → ScriptNode → NodeRec
+node_record script batches node = record {
+  node = node.name;
+  handed = handed_to script batches node.name;
+  first = (first_at script node.name).version;
+  applies = applies_from script node.name (first_at script node.name) (commits_to script batches node.name);
+  view = views_of (latest (zero_state script.cluster) (applied_states script batches node.name));
+}

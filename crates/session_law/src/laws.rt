@@ -1,0 +1,44 @@
+ghost use Rattle.session_law.specs.Laws.{AnswersAreFirstHits, AppliedWasHanded, AreUnlawful, IsWorked, OthersKeepTheState, TasksStandOnce, VersionsAreInOrder, ViewsAreEmpty};
+
+// Laws over the definitions: each function does nothing, and its contract is the law.
+
+/// The committed versions of a serial history are 2, 3, 4, .. in order.
+pub fn versions_are_in_order()
+    ensures { VersionsAreInOrder }
+{}
+
+/// No task is in two batches of a serial history.
+pub fn tasks_stand_once()
+    ensures { TasksStandOnce }
+{}
+
+/// A batch that is unchanged, failed or refused leaves the whole world as it was, and one whose publication fails leaves
+/// the current state. Only a published one makes a new state, of the next version.
+pub fn others_keep_the_state()
+    ensures { OthersKeepTheState }
+{}
+
+/// A part of a watch that was answered was shown no earlier state that hits it.
+pub fn answers_are_first_hits()
+    ensures { AnswersAreFirstHits }
+{}
+
+/// What a node applied after its first state is a part, in order, of what it was handed.
+pub fn applied_was_handed()
+    ensures { AppliedWasHanded }
+{}
+
+/// The index and alias views of a state without indices are empty.
+pub fn views_are_empty()
+    ensures { ViewsAreEmpty }
+{}
+
+/// There is a lawful session of good form: the small one that `docs/MODEL.md` works through.
+pub fn worked_session_is_lawful()
+    ensures { IsWorked }
+{}
+
+/// With one thing of it changed it isn't lawful.
+pub fn changed_sessions_are_unlawful()
+    ensures { AreUnlawful }
+{}
