@@ -422,29 +422,45 @@ fn names(alloc: Global, list: &[&str]) -> Result<Found, Fail> {
     Ok(Found::Names(names))
 }
 
+fn finds(alloc: Global, look: Look, wanted: Found) -> Result<bool, Fail> {
+    let state = shared(alloc)?;
+    let found = lookup(alloc, &state, &look)?;
+    Ok(found == wanted)
+}
+
+fn finds_index(alloc: Global, name: &str, wanted: Found) -> Result<bool, Fail> {
+    finds(alloc, Look::Index(text(alloc, name)?), wanted)
+}
+
+fn finds_names(alloc: Global, alias: &str, wanted: Found) -> Result<bool, Fail> {
+    finds(alloc, Look::Alias(text(alloc, alias)?), wanted)
+}
+
+fn finds_value(alloc: Global, key: &str, wanted: Found) -> Result<bool, Fail> {
+    finds(alloc, Look::Setting(text(alloc, key)?), wanted)
+}
+
 #[test]
 fn a_look_finds_what_is_there(rt: HostRuntime) -> Result<(), Fail> {
     let alloc = rt.alloc();
-    let state = shared(alloc)?;
-    let index = lookup(alloc, &state, &Look::Index(text(alloc, "logs-0")?))?;
-    let wanted = Found::Index {
+    let index = Found::Index {
         id: 3,
         opened: false,
         shards: 7,
         replicas: 0,
     };
-    assert!(rt; index == wanted);
-    let both = lookup(alloc, &state, &Look::Alias(text(alloc, "a")?))?;
-    assert!(rt; both == names(alloc, &["b", "logs-0"])?);
-    let value = lookup(alloc, &state, &Look::Setting(text(alloc, "k2")?))?;
-    assert!(rt; value == Found::Value(text(alloc, "é")?));
-    for look in [
-        Look::Index(text(alloc, "a")?),
-        Look::Alias(text(alloc, "b2")?),
-        Look::Setting(text(alloc, "k")?),
-    ] {
-        assert!(rt; lookup(alloc, &state, &look)? == Found::Missing);
-    }
+    assert!(rt; finds_index(alloc, "logs-0", index)?);
+    assert!(rt; finds_names(alloc, "a", names(alloc, &["b", "logs-0"])?)?);
+    assert!(rt; finds_value(alloc, "k2", Found::Value(text(alloc, "é")?))?);
+    Ok(())
+}
+
+#[test]
+fn a_look_at_nothing_finds_it_missing(rt: HostRuntime) -> Result<(), Fail> {
+    let alloc = rt.alloc();
+    assert!(rt; finds_index(alloc, "a", Found::Missing)?);
+    assert!(rt; finds_names(alloc, "b2", Found::Missing)?);
+    assert!(rt; finds_value(alloc, "k", Found::Missing)?);
     assert!(rt; zero_meets(alloc, 0)? && !zero_meets(alloc, 1)?);
     Ok(())
 }
