@@ -128,6 +128,7 @@ lawful = record {
 good : IsGoodForm worked_session
 good = record {
   queues = refl;
+  entries = refl;
   order = order;
   reads = refl;
   nodes = refl;
