@@ -25,7 +25,7 @@ use Rattle.session_law.specs.Publications.{is_eligible, is_sent_diff, reach_all,
 use Rattle.session_law.specs.SerialHistories.{IsSerialHistory}
 use Rattle.session_law.specs.Views.{views_of}
 use Rattle.session_law.specs.Watches.{IsWatched, answer_of, final_place, is_hit_by, pred_of, states_at}
-use Rattle.session_law.specs.Worked.{answering_early, failing_the_ack, leaving_a_node, leaving_a_task, leaving_the_ack, reading_the_first_state, seeing_nothing, skipping_a_version, turning_the_replies, worked_script, worked_session}
+use Rattle.session_law.specs.Worked.{answering_early, beginning_early, failing_the_ack, leaving_a_node, leaving_a_task, leaving_the_ack, reading_the_first_state, seeing_nothing, skipping_a_version, turning_the_replies, worked_script, worked_session}
 use Rattle.session_law.specs.Worlds.{first_world}
 
 -- ---- the committed versions of a serial history are 2, 3, 4, .. in order
@@ -153,5 +153,6 @@ pub record AreUnlawful : Type 0 where
   pub failure : ¬ IsLawful worked_script failing_the_ack
   pub answer : ¬ IsLawful worked_script answering_early
   pub read : ¬ IsLawful worked_script reading_the_first_state
+  pub place : ¬ IsLawful worked_script beginning_early
   pub node : ¬ IsLawful worked_script leaving_a_node
   pub order : ¬ IsLawful worked_script turning_the_replies
