@@ -55,7 +55,7 @@ part_first script watches states step pred watch h some = record {
 watch_first : (script : Script) (batches : List Batch) (watches : List Watch) (watch : Watch) → IsWatchPart script batches watches watch → IsFirstHitOf script batches watch
 watch_first script batches watches watch h some step pred e f =
     let states = states_at script batches watch.client watch.step in
-    let P : Option Step → Type 0 = watched.IsPartOf script watches states watch in
+    let P : Option Step → Type 0 = watched.IsPartOfStep script watches states watch in
     let Q : Option Pred → Type 0 = IsPartWith script watches states step watch in
     part_first script watches states step pred watch (subst Q f (subst P e h)) some
 

@@ -28,7 +28,7 @@ use Rattle.session_law.specs.SerialHistories.{IsSerialHistory}
 use Rattle.session_law.specs.Steps.{batch_step}
 use Rattle.session_law.specs.Views.{views_of}
 use Rattle.session_law.specs.Watches.{IsWatched, states_at}
-use Rattle.session_law.specs.Worked.{answering_early, failing_the_ack, leaving_a_node, leaving_a_task, leaving_the_ack, one_task, reading_the_first_state, seeing_nothing, skipping_a_version, turning_the_replies, worked_script, worked_session}
+use Rattle.session_law.specs.Worked.{answering_early, beginning_early, failing_the_ack, leaving_a_node, leaving_a_task, leaving_the_ack, one_task, reading_the_first_state, seeing_nothing, skipping_a_version, turning_the_replies, worked_script, worked_session}
 use Rattle.session_law.specs.Worlds.{first_world}
 
 -- what isn't so isn't asked
@@ -52,30 +52,30 @@ ended : EndsOnce worked_script worked_session.batches worked_session.replies
 unfolding first_world batch_step reach_all executed folded task_outcome
 ended = record {
   ended = (record { submit = refl; end = refl; after_close = never }, (record { submit = refl; end = refl; after_close = never }, tt));
-  once = ((λ _. refl), (never, ((λ _. refl), (never, (never, tt)))));
+  once = ((λ _. refl), (never, ((λ _. refl), (never, (never, (never, tt))))));
 }
 
 acknowledged : IsAcknowledged worked_script worked_session.batches worked_session.acks
 unfolding first_world batch_step reach_all executed folded task_outcome
 acknowledged = record {
   answered = (refl, tt);
-  once = ((λ _. refl), (never, (never, (never, (never, tt)))));
+  once = ((λ _. refl), (never, (never, (never, (never, (never, tt))))));
 }
 
 met_index : (state : ClusterState) (name : List ℕ) → is_met state (Index name) ≡ is_some (lookup name state.metadata.indices)
 unfolding is_met
 met_index state name = ap (is_met state) (sym (rolls-Index name)) ∙ fold-roll-Pred Bool (met_step state) (Pred-F.Index name)
 
-at_most_three : 3 ≤ 3
-at_most_three = omega arith
+three_of_three : 3 ≤ 3
+three_of_three = omega arith
 
 watched : IsWatched worked_script worked_session.batches worked_session.watches
 unfolding first_world batch_step reach_all executed folded task_outcome
 watched = record {
-  parts = (record { begins = refl; shown = omega arith; within = at_most_three; passed = λ i. list_all (λ s. not (met_index s (codes "b") i)) (take 2 (states_at worked_script worked_session.batches 1 0)); ends = (met_index worked_session.last (codes "b"), refl); after_close = never }, tt);
-  once = (refl, tt);
-  begun = (never, (never, (never, (never, ((λ _. refl), tt)))));
-  continued = (never, tt);
+  parts = (record { begins = refl; shown = omega arith; within = three_of_three; passed = refl; ends = (met_index worked_session.last (codes "a"), refl); after_close = never }, (record { begins = refl; shown = omega arith; within = three_of_three; passed = λ i. list_all (λ s. not (met_index s (codes "b") i)) (take 2 (states_at worked_script worked_session.batches 1 0)); ends = (met_index worked_session.last (codes "b"), refl); after_close = never }, tt));
+  once = (refl, (refl, tt));
+  begun = (never, (never, (never, (never, ((λ _. refl), ((λ _. refl), tt))))));
+  continued = (never, (never, tt));
 }
 
 two_of_three : 2 ≤ 3
@@ -85,7 +85,7 @@ read : IsRead worked_script worked_session
 unfolding first_world batch_step reach_all executed folded task_outcome found_at
 read = record {
   found = ((refl, (two_of_three, refl)), tt);
-  once = (never, (never, (never, ((λ _. refl), (never, tt)))));
+  once = (never, (never, (never, ((λ _. refl), (never, (never, tt))))));
 }
 
 none_of_one : 0 ≤ 1
@@ -93,7 +93,7 @@ none_of_one = omega arith
 
 placed : AllByRecursion (IsPlaced worked_script worked_session) worked_session.watches
 unfolding first_world batch_step reach_all executed folded task_outcome
-placed = ((λ _. none_of_one), tt)
+placed = ((λ _. three_of_three), ((λ _. none_of_one), tt))
 
 recorded : IsRecorded worked_script worked_session
 unfolding first_world batch_step reach_all executed folded task_outcome node_record change_between views_of
@@ -128,6 +128,7 @@ lawful = record {
 good : IsGoodForm worked_session
 good = record {
   queues = refl;
+  entries = refl;
   order = order;
   reads = refl;
   nodes = refl;
@@ -174,11 +175,18 @@ fails_the_ack h = one_zero h.acknowledged.answered.0.0
 answers_early : ¬ IsLawful worked_script answering_early
 unfolding first_world batch_step reach_all executed folded task_outcome
 answers_early h =
-    absurd (false≢true (sym (met_index (world_after worked_script (one_task 0 0 2 ∷ [])).state (codes "b")) ∙ h.watched.parts.0.ends.0))
+    absurd (false≢true (sym (met_index (world_after worked_script (one_task 0 0 2 ∷ [])).state (codes "b")) ∙ h.watched.parts.1.0.ends.0))
 
 reads_the_first_state : ¬ IsLawful worked_script reading_the_first_state
 unfolding first_world batch_step reach_all executed folded task_outcome
 reads_the_first_state h = two_one h.read.found.0.1.0
+
+three_one : ¬ (3 ≤ 1)
+three_one e = omega arith
+
+begins_early : ¬ IsLawful worked_script beginning_early
+unfolding first_world batch_step reach_all executed folded task_outcome
+begins_early h = three_one (h.placed.0 refl)
 
 leaves_a_node : ¬ IsLawful worked_script leaving_a_node
 leaves_a_node h = zero_one (ap (λ (records : List NodeRec). length records) h.recorded.each.1.0)
@@ -195,6 +203,7 @@ changed_sessions_are_unlawful = record {
   failure = fails_the_ack;
   answer = answers_early;
   read = reads_the_first_state;
+  place = begins_early;
   node = leaves_a_node;
   order = turns_the_replies;
 }

@@ -1,8 +1,9 @@
--- Good form: what a session must be so that its report tells it whole. All names are names, lists of names are in byte
--- order, and the lists of the session are in the order of their lines. It is this project's own.
-use Rattle.std.specs.Prelude.{ℕ, ◌&&◌, Bool, true, List, is_none, map, bytes_eq, IsTrue}
+-- Good form: what a session must be for its report to tell it whole; that it does is not proved yet. All names are
+-- names, lists of names and maps are in byte order, no task stands twice in a batch, versions rise, and the lists of the
+-- session are in the order of their lines. It is this project's own.
+use Rattle.std.specs.Prelude.{ℕ, ◌&&◌, Bool, true, not, List, [], ◌∷◌, is_none, map, nat_lt, bytes_eq, IsTrue}
 use Rattle.std.specs.Cmp.Lexicographic.{slice_cmp}
-use Rattle.std.specs.List.{list_all}
+use Rattle.std.specs.List.{list_all, list_any}
 use Rattle.std.specs.Map.{keys_of}
 use Rattle.std.specs.Ordering.{nat_cmp, is_lt}
 use Rattle.meta_state.specs.declared.indices.IndexMetadata.{IndexMetadata}
@@ -13,13 +14,16 @@ use Rattle.meta_state.specs.declared.states.ClusterState.{ClusterState}
 use Rattle.meta_state.specs.Names.{name_fault}
 use Rattle.executors.specs.Scripts.{are_distinct, is_name}
 use Rattle.executors.specs.SettingTasks.{is_key}
+use Rattle.session_law.specs.declared.batches.Entry.{Entry}
 use Rattle.session_law.specs.declared.records.ApplyEnd.{ApplyEnd}
 use Rattle.session_law.specs.declared.records.ApplyEnd.TheVariants as end
 use Rattle.session_law.specs.declared.records.Change.{Change}
 use Rattle.session_law.specs.declared.records.NodeRec.{NodeRec}
 use Rattle.session_law.specs.declared.records.View.{View}
 use Rattle.session_law.specs.declared.sessions.Session.{Session}
+use Rattle.session_law.specs.Histories.{is_same_task}
 use Rattle.session_law.specs.Lawful.{AreInOrder, is_rising}
+use Rattle.session_law.specs.NodeLines.{applied_versions}
 
 -- ---- names
 
@@ -40,15 +44,15 @@ abbrev pub is_named_node : List ℕ × NodeInfo → Bool
 is_named_node p = is_name p.0 && bytes_eq p.0 p.1.name
 
 abbrev pub is_named_index : List ℕ × IndexMetadata → Bool
-is_named_index p = is_index_name p.0 && list_all is_index_name (keys_of p.1.aliases)
+is_named_index p = is_index_name p.0 && are_listed is_index_name (keys_of p.1.aliases)
 
--- a state whose names are names, with each node under its own
+-- a state whose names are names and whose maps are in byte order, with each node under its own name
 pub record IsNamedState (state : ClusterState) : Type 0 where
   pub cluster : IsTrue (is_name state.cluster)
   pub master : IsTrue (is_name state.master)
-  pub nodes : IsTrue (list_all is_named_node state.nodes)
-  pub indices : IsTrue (list_all is_named_index state.metadata.indices)
-  pub settings : IsTrue (list_all is_key (keys_of state.metadata.settings))
+  pub nodes : IsTrue (list_all is_named_node state.nodes && is_rising is_name_before (keys_of state.nodes))
+  pub indices : IsTrue (list_all is_named_index state.metadata.indices && is_rising is_name_before (keys_of state.metadata.indices))
+  pub settings : IsTrue (are_listed is_key (keys_of state.metadata.settings))
 
 -- ---- records of nodes
 
@@ -66,10 +70,23 @@ is_good_alias p = is_index_name p.0 && are_listed is_index_name p.1
 
 abbrev pub is_good_view : View → Bool
 is_good_view view =
-    list_all is_good_alias view.aliases && (list_all is_index_name (keys_of view.indices) && list_all is_key (keys_of view.settings))
+    list_all is_good_alias view.aliases && (are_listed is_index_name (keys_of view.aliases) &&
+    (are_listed is_index_name (keys_of view.indices) && are_listed is_key (keys_of view.settings)))
+
+-- the versions that the node was handed rise, and so do those that it applied
+abbrev pub are_versions_rising : NodeRec → Bool
+are_versions_rising node = is_rising nat_lt node.handed && is_rising nat_lt (applied_versions node)
 
 abbrev pub is_good_node : NodeRec → Bool
-is_good_node node = is_name node.node && (list_all (λ a. is_good_apply a.end) node.applies && is_good_view node.view)
+is_good_node node =
+    is_name node.node && (are_versions_rising node && (list_all (λ a. is_good_apply a.end) node.applies && is_good_view node.view))
+
+-- ---- batches
+
+-- no two of the entries are of one task
+abbrev pub are_apart : List Entry → Bool
+are_apart [] = true
+are_apart (entry ∷ entries) = not (list_any (is_same_task entry) entries) && are_apart entries
 
 -- ---- reads
 
@@ -81,6 +98,7 @@ is_good_found _ = true
 
 pub record IsGoodForm (session : Session) : Type 0 where
   pub queues : IsTrue (list_all (λ b. is_name b.queue) session.batches)
+  pub entries : IsTrue (list_all (λ b. are_apart b.entries) session.batches)
   pub order : AreInOrder session
   pub reads : IsTrue (list_all (λ r. is_good_found r.found) session.reads)
   pub nodes : IsTrue (list_all is_good_node session.nodes)

@@ -96,7 +96,7 @@ pub record IsApart (a b : Placed) : Type 0 where
   pub other : is_same_task a.entry b.entry ≡ false
   pub rises : bytes_eq a.queue b.queue ≡ true → a.entry.client ≡ b.entry.client → a.entry.step < b.entry.step
 
--- what an entry's client had awaited ran before the entry's own batch, by the batches' numbers
+-- the `seen` that an entry carries is below the number of its batch
 abbrev pub AreSeen : ℕ → List Batch → Type 0
 AreSeen number [] = Unit {0}
 AreSeen number (batch ∷ batches) = AllByRecursion (λ e. e.seen < number) batch.entries × AreSeen (number + 1) batches
@@ -106,7 +106,7 @@ abbrev pub AreApart : List Placed → Type 0
 AreApart [] = Unit {0}
 AreApart (placed ∷ more) = AllByRecursion (IsApart placed) more × AreApart more
 
--- the batches of a book: a serial history of the script, but that what a client had seen is only bounded
+-- the batches of a book: a serial history of the script, but that the `seen` of its entries is only bounded
 pub record IsSerial (script : Script) (batches : List Batch) : Type 0 where
   pub results : AreResults script (first_world script) batches
   pub filled : AllByRecursion (λ b. 0 < length b.entries) batches

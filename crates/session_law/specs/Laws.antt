@@ -1,15 +1,19 @@
 -- Laws over the definitions, in the subject's own words. Each is the contract of a function of its own. They are this
 -- project's own.
-use Rattle.std.specs.Prelude.{◌≡◌, ℕ, ◌+◌, ◌≤◌, ◌<◌, ◌⊎◌, false, List, [], ◌∷◌, Option, Some, None, count_by, drop, filter_map, is_some, map, slice_get, IsTrue}
-use Rattle.std.specs.List.{AllByRecursion}
+use Rattle.std.specs.Prelude.{◌≡◌, ℕ, ◌+◌, ◌≤◌, ◌<◌, ◌⊎◌, ◌&&◌, Bool, false, not, List, [], ◌∷◌, Option, Some, None, bytes_eq, count_by, drop, filter, filter_map, is_some, map, slice_get, IsTrue, if◌then◌else◌}
+use Rattle.std.specs.List.{AllByRecursion, list_any}
+use Rattle.plain_data.specs.Pairs.{lookup}
 use Rattle.meta_state.specs.declared.predicates.Pred.{Pred}
 use Rattle.meta_state.specs.declared.states.ClusterState.{ClusterState}
 use Rattle.executors.specs.declared.scripts.Script.{Script}
+use Rattle.executors.specs.declared.scripts.ScriptNode.{ScriptNode}
 use Rattle.executors.specs.declared.steps.Step.{Step}
 use Rattle.session_law.specs.declared.batches.Batch.{Batch}
 use Rattle.session_law.specs.declared.batches.BatchResult.{BatchResult}
 use Rattle.session_law.specs.declared.batches.BatchResult.TheVariants as result
 use Rattle.session_law.specs.declared.watchings.Watch.{Watch}
+use Rattle.session_law.specs.declared.worlds.NodeWorld.{NodeWorld}
+use Rattle.session_law.specs.declared.worlds.Reach.{Reach}
 use Rattle.session_law.specs.declared.worlds.World.{World}
 use Rattle.session_law.specs.Committed.{committed_on}
 use Rattle.session_law.specs.GoodForm.{IsGoodForm}
@@ -17,10 +21,11 @@ use Rattle.session_law.specs.Histories.{after, step_at, stepped}
 use Rattle.session_law.specs.Lawful.{IsLawful}
 use Rattle.session_law.specs.NodeRecords.{applied_by, handed_to}
 use Rattle.session_law.specs.Outcomes.{holds}
+use Rattle.session_law.specs.Publications.{is_eligible, is_sent_diff, reach_all, reach_none}
 use Rattle.session_law.specs.SerialHistories.{IsSerialHistory}
 use Rattle.session_law.specs.Views.{views_of}
 use Rattle.session_law.specs.Watches.{IsWatched, answer_of, final_place, is_hit_by, pred_of, states_at}
-use Rattle.session_law.specs.Worked.{answering_early, failing_the_ack, leaving_a_node, leaving_a_task, leaving_the_ack, reading_the_first_state, seeing_nothing, skipping_a_version, turning_the_replies, worked_script, worked_session}
+use Rattle.session_law.specs.Worked.{answering_early, beginning_early, failing_the_ack, leaving_a_node, leaving_a_task, leaving_the_ack, reading_the_first_state, seeing_nothing, skipping_a_version, turning_the_replies, worked_script, worked_session}
 use Rattle.session_law.specs.Worlds.{first_world}
 
 -- ---- the committed versions of a serial history are 2, 3, 4, .. in order
@@ -62,6 +67,37 @@ KeepsState old (result.PublishFailed id diffs fulls accepted) new = (new.state �
 
 abbrev pub OthersKeepTheState : Type 0
 OthersKeepTheState = (script : Script) (world : World) (batch : Batch) → KeepsState world (stepped script world batch).result (after script world batch)
+
+-- ---- what a publication reaches is counted over the nodes that accept it
+
+-- whether a node accepts the new state: it is in it and can be reached
+abbrev pub does_accept : (List ℕ → ℕ → Bool) → ClusterState → ScriptNode × NodeWorld → Bool
+does_accept cut new p = is_some (lookup p.0.name new.nodes) && not (cut p.0.name (p.1.sent + 1))
+
+-- what a node of the new state has then
+abbrev pub sent_more : ClusterState → NodeWorld → Bool → NodeWorld
+sent_more new has accepts = if accepts then record { accepted = new; sent = has.sent + 1 } else record has { sent = has.sent + 1 }
+
+-- what a node has then: one that isn't in the new state is sent nothing
+abbrev pub sent_on : (List ℕ → ℕ → Bool) → ClusterState → ScriptNode × NodeWorld → NodeWorld
+sent_on cut new p = if is_some (lookup p.0.name new.nodes) then sent_more new p.1 (does_accept cut new p) else p.1
+
+-- how far it reaches, over the nodes with what they have
+abbrev pub counted_on : (List ℕ → ℕ → Bool) → ClusterState → ClusterState → List (ScriptNode × NodeWorld) → Reach
+counted_on cut prev new nodes =
+    let accepting = filter (does_accept cut new) nodes in
+    record {
+      nodes = map (sent_on cut new) nodes;
+      diffs = count_by (λ p. is_sent_diff prev p.0.name p.1) accepting;
+      fulls = count_by (λ p. not (is_sent_diff prev p.0.name p.1)) accepting;
+      votes = count_by (λ p. is_eligible (lookup p.0.name new.nodes)) accepting;
+      master = list_any (λ p. bytes_eq p.0.name new.master) accepting;
+    }
+
+abbrev pub PublicationsAreCounted : Type 0
+PublicationsAreCounted =
+    (cut : List ℕ → ℕ → Bool) (prev new : ClusterState) (nodes : List (ScriptNode × NodeWorld)) →
+    reach_all cut prev new reach_none (map (λ p. p.0) nodes) (map (λ p. p.1) nodes) ≡ counted_on cut prev new nodes
 
 -- ---- an answered part was shown no earlier state that hits it
 
@@ -117,5 +153,6 @@ pub record AreUnlawful : Type 0 where
   pub failure : ¬ IsLawful worked_script failing_the_ack
   pub answer : ¬ IsLawful worked_script answering_early
   pub read : ¬ IsLawful worked_script reading_the_first_state
+  pub place : ¬ IsLawful worked_script beginning_early
   pub node : ¬ IsLawful worked_script leaving_a_node
   pub order : ¬ IsLawful worked_script turning_the_replies

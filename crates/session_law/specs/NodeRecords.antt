@@ -112,10 +112,10 @@ applies_from script name old (commit ∷ commits) =
     then failed_apply old commit.state ∷ applies_from script name old commits
     else apply_of old commit.state ∷ applies_from script name commit.state commits
 
--- the last of some states
-abbrev pub latest : ClusterState → List ClusterState → ClusterState
-latest state [] = state
-latest state (next ∷ states) = latest next states
+-- the last of an item and those after it
+abbrev pub last_of : {A : Type 0} → A → List A → A
+last_of item [] = item
+last_of item (next ∷ more) = last_of next more
 
 unfoldable pub node_record : Script → List Batch → ScriptNode → NodeRec
 node_record script batches node = record {
@@ -123,5 +123,5 @@ node_record script batches node = record {
   handed = handed_to script batches node.name;
   first = (first_at script node.name).version;
   applies = applies_from script node.name (first_at script node.name) (commits_to script batches node.name);
-  view = views_of (latest (zero_state script.cluster) (applied_states script batches node.name));
+  view = views_of (last_of (zero_state script.cluster) (applied_states script batches node.name));
 }

@@ -12,7 +12,7 @@ pub record NumberedStep : Type 0 where
   pub number : ℕ
   pub step : Step
 
--- the steps of one client, numbered from one on
+-- the steps of one client, numbered from a number on
 abbrev pub numbered_from : ℕ → ℕ → List Step → List NumberedStep
 numbered_from client number [] = []
 numbered_from client number (step ∷ steps) =

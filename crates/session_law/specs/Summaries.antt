@@ -10,6 +10,7 @@ use Rattle.session_law.specs.declared.records.NodeRec.{NodeRec}
 use Rattle.session_law.specs.declared.sessions.Session.{Session}
 use Rattle.session_law.specs.NodeLines.{applied_versions}
 use Rattle.session_law.specs.Lines.{line_end}
+use Rattle.session_law.specs.NodeRecords.{last_of}
 
 abbrev pub is_ok : TaskEnd → Bool
 is_ok (Ok version) = true
@@ -24,11 +25,6 @@ with_keys (p ∷ ps) names = with_keys ps (with p.0 tt names)
 abbrev pub with_aliases_of : List (List ℕ × IndexMetadata) → List (List ℕ × Unit {0}) → List (List ℕ × Unit {0})
 with_aliases_of [] names = names
 with_aliases_of (p ∷ ps) names = with_aliases_of ps (with_keys p.1.aliases names)
-
--- the last of a version and those after it
-abbrev pub last_of : ℕ → List ℕ → ℕ
-last_of version [] = version
-last_of version (next ∷ versions) = last_of next versions
 
 -- whether a node applied a version last
 abbrev pub is_at : ℕ → NodeRec → Bool

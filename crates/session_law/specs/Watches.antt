@@ -141,9 +141,9 @@ abbrev pub IsPartWith : Script → List Watch → List ClusterState → Step →
 IsPartWith script watches states step watch None = ⊥
 IsPartWith script watches states step watch (Some pred) = IsPart script watches states step pred watch
 
-abbrev pub IsPartOf : Script → List Watch → List ClusterState → Watch → Option Step → Type 0
-IsPartOf script watches states watch None = ⊥
-IsPartOf script watches states watch (Some step) = IsPartWith script watches states step watch (pred_of step watch.part)
+abbrev pub IsPartOfStep : Script → List Watch → List ClusterState → Watch → Option Step → Type 0
+IsPartOfStep script watches states watch None = ⊥
+IsPartOfStep script watches states watch (Some step) = IsPartWith script watches states step watch (pred_of step watch.part)
 
 -- the states that the node of a step has, one after the other
 abbrev pub states_at : Script → List Batch → ℕ → ℕ → List ClusterState
@@ -151,7 +151,7 @@ states_at script batches client step = applied_states script batches (node_at sc
 
 abbrev pub IsWatchPart : Script → List Batch → List Watch → Watch → Type 0
 IsWatchPart script batches watches watch =
-    IsPartOf script watches (states_at script batches watch.client watch.step) watch (step_at script watch.client watch.step)
+    IsPartOfStep script watches (states_at script batches watch.client watch.step) watch (step_at script watch.client watch.step)
 
 -- ---- all parts
 

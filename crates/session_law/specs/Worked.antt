@@ -23,6 +23,7 @@ use Rattle.session_law.specs.declared.records.ApplyEnd.TheVariants as applied
 use Rattle.session_law.specs.declared.records.NodeRec.{NodeRec}
 use Rattle.session_law.specs.declared.replies.AckEnd.TheVariants as ack
 use Rattle.session_law.specs.declared.sessions.Session.{Session}
+use Rattle.session_law.specs.declared.watchings.Watch.{Watch}
 use Rattle.session_law.specs.declared.watchings.WatchEnd.TheVariants as watch
 
 -- ---- the script
@@ -33,7 +34,8 @@ member name = record { name = name; eligible = true; member = true }
 abbrev pub making : List ℕ → Task
 making index = task.CreateIndex index 1 1
 
--- client 0 makes `a` and awaits that all nodes have it, makes `b`, and looks at `a` on n1; client 1 watches n0 for `b`
+-- client 0 makes `a` and awaits that all nodes have it, makes `b`, looks at `a` on n1 and watches n1 for it; client 1
+-- watches n0 for `b`
 abbrev pub worked_script : Script
 worked_script = record {
   version = 1;
@@ -44,7 +46,8 @@ worked_script = record {
       (step.Submit 0 (making (codes "a")) None (Some (record { nodes = None; timeout = None })) ∷
       step.Await 0 goal.Ack ∷
       step.Submit 0 (making (codes "b")) None None ∷
-      step.Read (codes "n1") (look.Index (codes "a")) ∷ []) ∷
+      step.Read (codes "n1") (look.Index (codes "a")) ∷
+      step.Watch (codes "n1") (pred.Index (codes "a")) [] 100 ∷ []) ∷
       (step.Watch (codes "n0") (pred.Index (codes "b")) [] 100 ∷ []) ∷ [];
   faults = [];
   schedule = [];
@@ -99,6 +102,19 @@ worked_node name = record {
   view = record { aliases = []; indices = (codes "a", 1) ∷ (codes "b", 2) ∷ []; settings = [] };
 }
 
+-- the first part of a watch that was answered
+abbrev pub answered_watch : ℕ → ℕ → ℕ → ℕ → ℕ → Watch
+answered_watch client step place shown version = record {
+  client = client;
+  step = step;
+  part = 0;
+  at = 0;
+  last = None;
+  place = place;
+  shown = shown;
+  end = watch.Answered version;
+}
+
 abbrev pub worked_session : Session
 worked_session = record {
   batches = one_task 0 0 2 ∷ one_task 2 1 3 ∷ [];
@@ -106,7 +122,7 @@ worked_session = record {
       record { client = 0; step = 0; at = 0; end = end.Ok 2 } ∷
       record { client = 0; step = 2; at = 0; end = end.Ok 3 } ∷ [];
   acks = record { client = 0; step = 0; end = ack.All } ∷ [];
-  watches = record { client = 1; step = 0; part = 0; at = 0; last = None; place = 0; shown = 3; end = watch.Answered 3 } ∷ [];
+  watches = answered_watch 0 4 2 1 3 ∷ answered_watch 1 0 0 3 3 ∷ [];
   reads = record { client = 0; step = 3; version = 3; found = found.Index 1 true 1 1 } ∷ [];
   nodes = worked_node (codes "n0") ∷ worked_node (codes "n1") ∷ [];
   last = worked_state;
@@ -136,9 +152,11 @@ failing_the_ack = record worked_session { acks = record { client = 0; step = 0; 
 
 -- a watch is answered by a state that doesn't hit it
 abbrev pub answering_early : Session
-answering_early = record worked_session {
-  watches = record { client = 1; step = 0; part = 0; at = 0; last = None; place = 0; shown = 2; end = watch.Answered 2 } ∷ [];
-}
+answering_early = record worked_session { watches = answered_watch 0 4 2 1 3 ∷ answered_watch 1 0 0 2 2 ∷ [] }
+
+-- a watch begins at a state older than its client knows
+abbrev pub beginning_early : Session
+beginning_early = record worked_session { watches = answered_watch 0 4 0 2 2 ∷ answered_watch 1 0 0 3 3 ∷ [] }
 
 -- a read is of a version older than the client knows
 abbrev pub reading_the_first_state : Session

@@ -1,4 +1,4 @@
-ghost use Rattle.session_law.specs.Laws.{AnswersAreFirstHits, AppliedWasHanded, AreUnlawful, IsWorked, OthersKeepTheState, TasksStandOnce, VersionsAreInOrder, ViewsAreEmpty};
+ghost use Rattle.session_law.specs.Laws.{AnswersAreFirstHits, AppliedWasHanded, AreUnlawful, IsWorked, OthersKeepTheState, PublicationsAreCounted, TasksStandOnce, VersionsAreInOrder, ViewsAreEmpty};
 
 // Laws over the definitions: each function does nothing, and its contract is the law.
 
@@ -16,6 +16,11 @@ pub fn tasks_stand_once()
 /// the current state. Only a published one makes a new state, of the next version.
 pub fn others_keep_the_state()
     ensures { OthersKeepTheState }
+{}
+
+/// How far a publication reaches is counted over the nodes that accept it: those of the new state that can be reached.
+pub fn publications_are_counted()
+    ensures { PublicationsAreCounted }
 {}
 
 /// A part of a watch that was answered was shown no earlier state that hits it.

@@ -20,8 +20,8 @@ mod worlds;
 pub use batches::{Batch, BatchResult, Entry};
 pub use laws::{
     answers_are_first_hits, applied_was_handed, changed_sessions_are_unlawful,
-    others_keep_the_state, tasks_stand_once, versions_are_in_order, views_are_empty,
-    worked_session_is_lawful,
+    others_keep_the_state, publications_are_counted, tasks_stand_once, versions_are_in_order,
+    views_are_empty, worked_session_is_lawful,
 };
 pub use looks::Read;
 pub use records::{Apply, ApplyEnd, Change, NodeRec, View};

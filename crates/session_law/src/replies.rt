@@ -28,6 +28,7 @@ pub enum AckEnd {
     /// So many required nodes didn't.
     Failed { count: u64 },
 
-    /// Answers were missing at its deadline; both are milliseconds.
+    /// It ended at its deadline, as the clock read so; or its state was committed at this reading, too late. Both are
+    /// milliseconds.
     Timeout { deadline: u64, reading: u64 },
 }

@@ -1,7 +1,8 @@
 ghost use Rattle.std.specs.Prelude.{◌≡◌, [], IfOk, OnOk, count_by};
 ghost use Rattle.std.specs.List.{list_all};
 ghost use Rattle.session_law.specs.NodeLines.{applied_to, applied_versions};
-ghost use Rattle.session_law.specs.Summaries.{equal_word, is_at, is_ok, last_of, summary_of, with_aliases_of, with_keys};
+ghost use Rattle.session_law.specs.NodeRecords.{last_of};
+ghost use Rattle.session_law.specs.Summaries.{equal_word, is_at, is_ok, summary_of, with_aliases_of, with_keys};
 
 use crate::node_lines::is_applied;
 use crate::records::NodeRec;

@@ -10,7 +10,7 @@ pub struct Watch {
     /// When the step began, in milliseconds.
     pub at: u64,
 
-    /// The version that a state must be newer than; none lets every state answer.
+    /// The version that a state must be newer than; none lets every state answer that meets the predicate.
     pub last: Option<u64>,
 
     /// At which of its node's applied states it began, from 0.
@@ -30,6 +30,6 @@ pub enum WatchEnd {
     /// It still waited at its deadline; both are milliseconds.
     Timeout { deadline: u64, reading: u64 },
 
-    /// It still waited as this step closed what waits.
+    /// It still waited as this step closed what waits, or began after it.
     Closed { client: u32, step: u32 },
 }

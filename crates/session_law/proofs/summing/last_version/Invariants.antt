@@ -1,6 +1,6 @@
 use Rattle.std.proofs.Common.{◌≡◌, drop}
 use Rattle.session_law.specs.NodeLines.{applied_to}
-use Rattle.session_law.specs.Summaries.{last_of}
+use Rattle.session_law.specs.NodeRecords.{last_of}
 use Rattle.session_law.proofs.summing.last_version.Given as goal
 
 -- what is left leads from this version to the last
