@@ -81,6 +81,7 @@ fn a_script_has_its_report_or_its_refusal(rt: HostRuntime) -> Result<(), Fail> {
 
 /// A script of one client, worked out by hand: its steps, the batches and tasks of its report, and what its last state
 /// holds beside what every state of the base script holds.
+#[derive(Clone, Copy)]
 struct Worked {
     steps: &'static str,
     lines: &'static str,

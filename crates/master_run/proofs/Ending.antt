@@ -1,5 +1,5 @@
 -- Each task of a batch ends: there are as many ends as entries.
-use Rattle.std.specs.Prelude.{◌≡◌, ℕ, ◌+◌, ◌≤◌, Bool, true, false, not, ◌&&◌, List, [], ◌∷◌, ◌++◌, length, map, Option, Some, None, option_and_then, slice_get, refl, if◌then◌else◌}
+use Rattle.std.specs.Prelude.{◌≡◌, ℕ, ◌+◌, Bool, true, false, not, ◌&&◌, List, [], ◌∷◌, ◌++◌, length, map, Option, Some, option_and_then, slice_get, refl, if◌then◌else◌}
 use Rattle.std.proofs.Common.{sym, ◌∙◌, ap, subst, arith}
 use Rattle.std.proofs.Math.Bool.{true≢false}
 use Rattle.std.proofs.lemmas.List.{length-append, length-map, length-replicate}
@@ -12,7 +12,6 @@ use Rattle.executors.specs.declared.contexts.Mark.{Mark}
 use Rattle.executors.specs.declared.contexts.TaskContext.{TaskContext}
 use Rattle.executors.specs.declared.contexts.Verdict.{Verdict}
 use Rattle.executors.specs.declared.contexts.Verdict.TheVariants.{Success, Refused}
-use Rattle.executors.specs.declared.ends.TaskEnd.{TaskEnd}
 use Rattle.executors.specs.declared.ends.TaskEnd.TheVariants as end
 use Rattle.executors.specs.declared.executing.Executed.{Executed}
 use Rattle.executors.specs.declared.executing.Executed.TheVariants.{Made, Failed}
@@ -31,9 +30,9 @@ use Rattle.session_law.specs.declared.batches.Entry.{Entry}
 use Rattle.session_law.specs.declared.worlds.Reach.{Reach}
 use Rattle.session_law.specs.declared.worlds.Stepped.{Stepped}
 use Rattle.session_law.specs.declared.worlds.World.{World}
-use Rattle.session_law.specs.Histories.{IsOwn, Placed, is_own_step, step_at, submitted, task_at, tasks_at}
+use Rattle.session_law.specs.Histories.{IsOwn, is_own_step, step_at, submitted, task_at, tasks_at}
 use Rattle.session_law.specs.Publications.{cut_by, does_commit, reach_all, reach_none}
-use Rattle.session_law.specs.Steps.{all_end, batch_step, commit_step, drop_step, end_of, executed_step, next_step}
+use Rattle.session_law.specs.Steps.{batch_step, commit_step, drop_step, end_of, executed_step, next_step}
 use Rattle.master_run.specs.Books.{ran_at}
 use Rattle.master_run.proofs.Bounds.{Stands, stands}
 

@@ -1,6 +1,6 @@
 -- What an await for a task names: an earlier submit of the same client.
 use Rattle.std.specs.Prelude.{◌≡◌, ℕ, zero, suc, ◌<◌, true, List, [], ◌∷◌, ◌++◌, take, Option, Some, None, option_and_then, slice_get, refl}
-use Rattle.std.proofs.Common.{sym, ◌∙◌, ap, subst, arith, append-nil, append_assoc}
+use Rattle.std.proofs.Common.{sym, ◌∙◌, ap, arith, append-nil, append_assoc}
 use Rattle.std.proofs.Math.Bool.{true≢false}
 use Rattle.executors.specs.declared.scripts.Script.{Script}
 use Rattle.executors.specs.declared.steps.Goal.TheVariants as goal

@@ -11,7 +11,6 @@ use Rattle.executors.specs.declared.steps.Step.TheVariants.{Submit}
 use Rattle.executors.specs.Scripts.{is_submit}
 use Rattle.session_law.specs.Histories.{IsApart, Placed, placed_of, step_at}
 use Rattle.master_run.specs.declared.replaying.Replay.{Replay}
-use Rattle.master_run.specs.declared.tellings.Telling.{Telling}
 use Rattle.master_run.specs.declared.waitings.Waiting.{Waiting}
 use Rattle.master_run.specs.Books.{IsKeptBook}
 use Rattle.master_run.specs.Tellings.{Tellings, step_cmp}
