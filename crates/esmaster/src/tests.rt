@@ -313,3 +313,63 @@ fn each_end_has_its_status(rt: HostRuntime) {
         status = status.wrapping_add(1);
     }
 }
+
+/// So many of a piece, joined by commas.
+fn joined(alloc: Global, piece: &str, count: u32) -> Result<String, OutOfMemory> {
+    let mut text = String::new(alloc);
+    for number in 0..count {
+        if number > 0 {
+            text.push_str(",")?;
+        }
+        text.push_str(piece)?;
+    }
+    Ok(text)
+}
+
+/// What a long script has many of.
+#[derive(Clone, Copy)]
+enum Many {
+    Faults,
+    Turns,
+    AliasReads,
+}
+
+/// A script of two nodes that has so many of them; beside reads at an alias a client submits 1,001 tasks.
+fn long_script(alloc: Global, many: Many, count: u32) -> Result<Vec<u8>, OutOfMemory> {
+    let fault = r#"{"node":"n1","publication":1,"kind":"apply"}"#;
+    let submit = r#"{"do":"submit","queue":"q","task":{"index":"a"}}"#;
+    let read = r#"{"do":"read","node":"n0","alias":"x"}"#;
+    let (submits, reads, faults, turns) = match many {
+        Many::Faults => (0, 0, count, 0),
+        Many::Turns => (0, 0, 0, count),
+        Many::AliasReads => (1001, count, 0, 0),
+    };
+    let submits = joined(alloc, submit, submits)?;
+    let reads = joined(alloc, read, reads)?;
+    let faults = joined(alloc, fault, faults)?;
+    let turns = joined(alloc, "\"m\"", turns)?;
+    let text = format!(in alloc;
+        "{{\"version\":1,\"cluster\":\"demo\",\"nodes\":[{{\"name\":\"n0\"}},{{\"name\":\"n1\"}}],\"queues\":[{{\"name\":\"q\",\"executor\":\"create_index\"}}],\"clients\":[[{submits}],[{reads}]],\"faults\":[{faults}],\"schedule\":[{turns}]}}"
+    )?;
+    Ok(Vec::from_slice(alloc, text.as_bytes())?)
+}
+
+#[test]
+fn long_lists_are_refused_by_their_limits(rt: HostRuntime) -> Result<(), Fail> {
+    let alloc = rt.alloc();
+    let cases = [
+        (Many::Faults, 1024, "refused bad_shape faults[1] twice\n"),
+        (Many::Faults, 1025, "refused limit faults\n"),
+        (Many::Turns, 65536, "refused bad_shape $ not_built\n"),
+        (Many::Turns, 65537, "refused limit schedule\n"),
+        // 1,001 submits and 3,996 reads come to 3,999,996, and one read more to 4,000,997
+        (Many::AliasReads, 3996, "refused bad_shape $ not_built\n"),
+        (Many::AliasReads, 3997, "refused limit work\n"),
+    ];
+    for (many, count, line) in cases {
+        let (ended, written) = replayed(alloc, long_script(alloc, many, count)?)?;
+        assert_eq!(rt; ended, Exit::ScriptRefused, "of {count}");
+        assert_eq!(rt; written.as_slice(), line.as_bytes(), "of {count}");
+    }
+    Ok(())
+}
