@@ -14,7 +14,8 @@ use Rattle.executors.specs.declared.executing.Executed.{Executed}
 use Rattle.executors.specs.declared.executing.Executed.TheVariants.{Made, Failed}
 use Rattle.executors.specs.declared.refusals.TaskRefusal.{TaskRefusal}
 use Rattle.executors.specs.Contexts.{marked}
-use Rattle.executors.specs.Executions.{folded, ran_none, ran_more, made_of, failed_or, failed_by, unless_refused, attempted, attempted_by, CanGoOn}
+use Rattle.executors.specs.Executions.{folded, ran_none, ran_more, made_of, failed_or, failed_by, unless_refused}
+use Rattle.executors.specs.Attempts.{attempted, attempted_by, CanGoOn}
 use Rattle.executors.specs.Outcomes.{task_outcome}
 use Rattle.executors.proofs.Counts.{IsCountedResult, task_counted}
 use Rattle.executors.proofs.Fold.{roomy_counted, low_rises}

@@ -27,7 +27,7 @@ use Rattle.executors.specs.declared.tasks.Task.TheVariants as task
 use Rattle.executors.specs.AliasTasks.{add_refusal, added_at, remove_refusal, removed_at, with_alias, without_alias}
 use Rattle.executors.specs.Contexts.{numbered}
 use Rattle.executors.specs.Executions.{executed, settled, unless_refused, failed_or, failed_by, made_of, folded, ran_none, ran_more}
-use Rattle.executors.specs.IndexTasks.{create_refusal, created_in, new_index, delete_refusal, deleted_in, index_setting_refusal, replicas_at, with_replicas, open_refusal, opened_at, with_opened, with_index}
+use Rattle.executors.specs.IndexTasks.{create_refusal, created_in, new_index, deleted_in, missing_refusal, index_setting_refusal, replicas_at, with_replicas, opened_at, with_opened, with_index}
 use Rattle.executors.specs.Kinds.{is_atomic}
 use Rattle.executors.specs.NodeTasks.{join_refusal, joined_in, leave_refusal, left_in, reelected_in}
 use Rattle.executors.specs.Outcomes.{task_outcome, alias_outcome, outcome}
@@ -176,11 +176,11 @@ alias_counted n state index alias false c =
 pub task_counted : (n : ℕ) (state : ClusterState) (task : Task) → IsCountedState n state → IsCountedState (n + 1) (task_outcome state task).0
 unfolding task_outcome
 task_counted n state (task.CreateIndex index shards replicas) c = outcome_counted n (create_refusal state index shards replicas) state _ c (created_counted n state index shards replicas c)
-task_counted n state (task.DeleteIndex index) c = outcome_counted n (delete_refusal state index) state _ c (deleted_counted n state index c)
+task_counted n state (task.DeleteIndex index) c = outcome_counted n (missing_refusal state index) state _ c (deleted_counted n state index c)
 task_counted n state (task.IndexSetting index key value) c =
     outcome_counted n (index_setting_refusal state index key value) state _ c (replicas_counted n state index value (lookup index state.metadata.indices) c (found_index n state index c))
 task_counted n state (task.OpenClose index opened) c =
-    outcome_counted n (open_refusal state index) state _ c (opened_counted n state index opened (lookup index state.metadata.indices) c (found_index n state index c))
+    outcome_counted n (missing_refusal state index) state _ c (opened_counted n state index opened (lookup index state.metadata.indices) c (found_index n state index c))
 task_counted n state (task.Alias index alias add) c = alias_counted n state index alias add c
 task_counted n state (task.ClusterSetting key value) c = outcome_counted n (setting_refusal key value) state _ c (same_counted n state (set_in state key value) c refl refl refl)
 task_counted n state (task.Join node) c = outcome_counted n (join_refusal state node) state _ c (same_counted n state (joined_in state node) c refl refl refl)

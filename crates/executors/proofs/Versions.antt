@@ -18,7 +18,7 @@ use Rattle.executors.specs.declared.tasks.Task.{Task}
 use Rattle.executors.specs.declared.tasks.Task.TheVariants as task
 use Rattle.executors.specs.AliasTasks.{add_refusal, added_at, remove_refusal, removed_at, with_alias}
 use Rattle.executors.specs.Executions.{unless_refused, failed_or, failed_by, made_of, folded, ran_none, ran_more, HasVersionsOf, KeepsVersions}
-use Rattle.executors.specs.IndexTasks.{create_refusal, created_in, delete_refusal, deleted_in, index_setting_refusal, replicas_at, with_replicas, open_refusal, opened_at, with_opened, with_index}
+use Rattle.executors.specs.IndexTasks.{create_refusal, created_in, deleted_in, missing_refusal, index_setting_refusal, replicas_at, with_replicas, opened_at, with_opened, with_index}
 use Rattle.executors.specs.NodeTasks.{join_refusal, joined_in, leave_refusal, left_in}
 use Rattle.executors.specs.Outcomes.{task_outcome, alias_outcome, outcome}
 use Rattle.executors.specs.SettingTasks.{setting_refusal, set_in}
@@ -62,9 +62,9 @@ alias_keeps state index alias false = outcome_keeps (remove_refusal state index 
 task_keeps : (state : ClusterState) (task : Task) → HasVersionsOf state (task_outcome state task).0
 unfolding task_outcome
 task_keeps state (task.CreateIndex index shards replicas) = outcome_keeps (create_refusal state index shards replicas) state _ (same_versions state (created_in state index shards replicas) refl refl refl)
-task_keeps state (task.DeleteIndex index) = outcome_keeps (delete_refusal state index) state _ (same_versions state (deleted_in state index) refl refl refl)
+task_keeps state (task.DeleteIndex index) = outcome_keeps (missing_refusal state index) state _ (same_versions state (deleted_in state index) refl refl refl)
 task_keeps state (task.IndexSetting index key value) = outcome_keeps (index_setting_refusal state index key value) state _ (replicas_keep state index value (lookup index state.metadata.indices))
-task_keeps state (task.OpenClose index opened) = outcome_keeps (open_refusal state index) state _ (opened_keep state index opened (lookup index state.metadata.indices))
+task_keeps state (task.OpenClose index opened) = outcome_keeps (missing_refusal state index) state _ (opened_keep state index opened (lookup index state.metadata.indices))
 task_keeps state (task.Alias index alias add) = alias_keeps state index alias add
 task_keeps state (task.ClusterSetting key value) = outcome_keeps (setting_refusal key value) state _ (same_versions state (set_in state key value) refl refl refl)
 task_keeps state (task.Join node) = outcome_keeps (join_refusal state node) state _ (same_versions state (joined_in state node) refl refl refl)

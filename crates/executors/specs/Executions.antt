@@ -82,19 +82,3 @@ pub record CanRise (state : ClusterState) : Type 0 where
   pub term : state.term < 2 ^ 64 - 1
   pub created : state.metadata.created < 2 ^ 64 - 1
   pub indices : AllByRecursion (λ p. CanIndexRise p.1) state.metadata.indices
-
--- ---- a batch that stops at its first refused task
-
--- after one task more
-abbrev pub attempted_by : Verdict → ℕ → Ran → Executed
-attempted_by Success position ran = made_of ran
-attempted_by (Refused refusal) position ran = Failed position refusal
-
-abbrev pub attempted : Executed → TaskContext → Executed
-attempted (Made state marks) context =
-    attempted_by (task_outcome state context.task).1 context.position (ran_more (record { state = state; marks = marks }) context)
-attempted (Failed position refusal) context = Failed position refusal
-
-abbrev pub CanGoOn : Executed → Type 0
-CanGoOn (Made state marks) = CanRise state
-CanGoOn (Failed position refusal) = Unit {0}

@@ -58,10 +58,11 @@ created_in state index shards replicas = record state {
   };
 }
 
--- ---- deletion
+-- why an index may not be deleted, opened or closed: it isn't there
+abbrev pub missing_refusal : ClusterState → List ℕ → Option TaskRefusal
+missing_refusal state index = if has_index state index then None else Some NotFound
 
-abbrev pub delete_refusal : ClusterState → List ℕ → Option TaskRefusal
-delete_refusal state index = if has_index state index then None else Some NotFound
+-- ---- deletion
 
 -- the state without an index, whose aliases go with it
 abbrev pub deleted_in : ClusterState → List ℕ → ClusterState
@@ -101,9 +102,6 @@ abbrev pub replicas_in : ClusterState → List ℕ → ℕ → ClusterState
 replicas_in state name replicas = replicas_at state name replicas (lookup name state.metadata.indices)
 
 -- ---- opening and closing
-
-abbrev pub open_refusal : ClusterState → List ℕ → Option TaskRefusal
-open_refusal state index = if has_index state index then None else Some NotFound
 
 -- an index opened or closed
 abbrev pub with_opened : IndexMetadata → Bool → IndexMetadata

@@ -1,4 +1,5 @@
 pub mod AliasTasks
+pub mod Attempts
 pub mod Contexts
 pub mod Executions
 pub mod IndexTasks

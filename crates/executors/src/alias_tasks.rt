@@ -1,11 +1,12 @@
 ghost use Rattle.std.specs.Prelude.{◌≡◌, IfOk, OnOk};
 ghost use Rattle.std.specs.Option.{option_copied};
+ghost use Rattle.meta_state.specs.Tables.{AgreeBut, aliases_at};
 ghost use Rattle.executors.specs.AliasTasks.{add_refusal, added_in, is_aliased_at, remove_refusal, removed_in, with_alias, without_alias};
 ghost use Rattle.executors.specs.Executions.{CanRise, CanIndexRise};
+ghost use Rattle.executors.specs.IndexTasks.{with_index};
 ghost use Rattle.executors.specs.Outcomes.{alias_outcome, outcome};
 
 use crate::contexts::Verdict;
-use crate::index_tasks::put_index;
 use crate::refusals::TaskRefusal;
 use meta_state::{ClusterState, IndexMetadata, check_index_name};
 use plain_data::{OutOfMemory, Text};
@@ -59,7 +60,7 @@ fn why_not_add(state: &ClusterState, index: &Text, alias: &Text) -> Option<TaskR
     }
 }
 
-#[tactic(auto, using(crate::proofs::Rising::index_can_rise))]
+#[tactic(auto, using(crate::proofs::Rising::index_can_rise, meta_state::proofs::Tables::one_alias_more))]
 fn add_alias(
     alloc: Global,
     state: &mut ClusterState,
@@ -76,7 +77,7 @@ fn add_alias(
         return Ok(());
     }
     let changed = widened(alloc, index, alias)?;
-    put_index(state, name, changed)
+    put_aliased(state, name, changed, alias)
 }
 
 fn widened(alloc: Global, index: &IndexMetadata, alias: &Text) -> Result<IndexMetadata, OutOfMemory>
@@ -126,7 +127,7 @@ fn is_there(index: Option<&IndexMetadata>, alias: &Text) -> bool
     }
 }
 
-#[tactic(auto, using(crate::proofs::Rising::index_can_rise))]
+#[tactic(auto, using(crate::proofs::Rising::index_can_rise, meta_state::proofs::Tables::one_alias_less))]
 fn remove_alias(
     alloc: Global,
     state: &mut ClusterState,
@@ -140,7 +141,7 @@ fn remove_alias(
         return Ok(());
     };
     let changed = narrowed(alloc, index, alias)?;
-    put_index(state, name, changed)
+    put_aliased(state, name, changed, alias)
 }
 
 fn narrowed(
@@ -156,4 +157,21 @@ fn narrowed(
     made.aliases_version += 1;
     made.aliases.remove(alias)?;
     Ok(made)
+}
+
+// Puts an index in place of the one that has its name, and its aliases but for one.
+fn put_aliased(
+    state: &mut ClusterState,
+    name: &Text,
+    index: IndexMetadata,
+    alias: &Text,
+) -> Result<(), OutOfMemory>
+    requires { AgreeBut alias.now index.aliases (aliases_at name.now state.old.metadata.indices) }
+    ensures { OnOk result (state.new ≡ with_index state.old name.now index) }
+{
+    let name = name.copy()?;
+    state
+        .metadata
+        .indices
+        .set_changing_alias(name, index, alias)
 }

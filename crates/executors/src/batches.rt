@@ -2,7 +2,8 @@ ghost use Rattle.std.specs.Prelude.{◌≡◌, List, [], ◌∷◌, ◌++◌, If
 ghost use Rattle.meta_state.specs.States.{IsRoomy};
 ghost use Rattle.executors.specs.Contexts.{marked};
 ghost use Rattle.executors.specs.declared.executing.Executed.TheVariants.{Made};
-ghost use Rattle.executors.specs.Executions.{CanGoOn, CanRise, attempted, attempted_by, folded, made_of, ran_more, ran_none, unless_refused};
+ghost use Rattle.executors.specs.Attempts.{CanGoOn, attempted, attempted_by};
+ghost use Rattle.executors.specs.Executions.{CanRise, folded, made_of, ran_more, ran_none, unless_refused};
 
 use crate::contexts::{Mark, TaskContext, Verdict};
 use crate::executing::Executed;

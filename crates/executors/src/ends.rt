@@ -25,6 +25,7 @@ pub enum TaskEnd {
     /// It still waited at its deadline; both are milliseconds.
     Timeout { deadline: u64, reading: u64 },
 
-    /// It still waited as this step closed what waits.
+    /// It still waited as this step closed what waits. A task that a client submits after its own close step ends so
+    /// too, at once.
     Closed { client: u32, step: u32 },
 }

@@ -1,6 +1,7 @@
 ghost use Rattle.std.specs.Prelude.{◌≡◌, IfOk, OnOk};
+ghost use Rattle.meta_state.specs.Tables.{aliases_at};
 ghost use Rattle.executors.specs.Executions.{CanRise, CanIndexRise};
-ghost use Rattle.executors.specs.IndexTasks.{create_refusal, created_in, delete_refusal, deleted_in, has_index, index_setting_refusal, is_replicas_key, is_shards_key, open_refusal, opened_in, replicas_in, with_index, with_opened, with_replicas};
+ghost use Rattle.executors.specs.IndexTasks.{create_refusal, created_in, deleted_in, has_index, index_setting_refusal, is_replicas_key, is_shards_key, missing_refusal, opened_in, replicas_in, with_index, with_opened, with_replicas};
 ghost use Rattle.executors.specs.Outcomes.{outcome};
 
 use crate::contexts::Verdict;
@@ -76,17 +77,17 @@ fn create(
 
 /// Deletes an index, whose aliases go with it, or refuses to.
 pub(crate) fn run_deletion(state: &mut ClusterState, index: &Text) -> Result<Verdict, OutOfMemory>
-    ensures { IfOk result (λ verdict. (state.new, verdict) ≡ outcome (delete_refusal state.old index.now) state.old (deleted_in state.old index.now)) }
+    ensures { IfOk result (λ verdict. (state.new, verdict) ≡ outcome (missing_refusal state.old index.now) state.old (deleted_in state.old index.now)) }
 {
-    if let Some(refusal) = why_not_delete(state, index) {
+    if let Some(refusal) = why_not_there(state, index) {
         return Ok(Verdict::Refused(refusal));
     }
     state.metadata.indices.remove(index)?;
     Ok(Verdict::Success)
 }
 
-fn why_not_delete(state: &ClusterState, index: &Text) -> Option<TaskRefusal>
-    ensures { result ≡ delete_refusal state.now index.now }
+fn why_not_there(state: &ClusterState, index: &Text) -> Option<TaskRefusal>
+    ensures { result ≡ missing_refusal state.now index.now }
 {
     if state.metadata.indices.contains_key(index) {
         None
@@ -142,7 +143,7 @@ fn is_replicas(key: &Text) -> bool
     key.as_str() == "index.number_of_replicas"
 }
 
-#[tactic(auto, using(crate::proofs::Rising::index_can_rise))]
+#[tactic(auto, using(crate::proofs::Rising::index_can_rise, meta_state::proofs::Tables::same_aliases))]
 fn set_replicas(
     alloc: Global,
     state: &mut ClusterState,
@@ -185,26 +186,16 @@ pub(crate) fn run_opening(
     opened: bool,
 ) -> Result<Verdict, OutOfMemory>
     requires { CanRise state.old }
-    ensures { IfOk result (λ verdict. (state.new, verdict) ≡ outcome (open_refusal state.old index.now) state.old (opened_in state.old index.now opened)) }
+    ensures { IfOk result (λ verdict. (state.new, verdict) ≡ outcome (missing_refusal state.old index.now) state.old (opened_in state.old index.now opened)) }
 {
-    if let Some(refusal) = why_not_open(state, index) {
+    if let Some(refusal) = why_not_there(state, index) {
         return Ok(Verdict::Refused(refusal));
     }
     set_opened(alloc, state, index, opened)?;
     Ok(Verdict::Success)
 }
 
-fn why_not_open(state: &ClusterState, index: &Text) -> Option<TaskRefusal>
-    ensures { result ≡ open_refusal state.now index.now }
-{
-    if state.metadata.indices.contains_key(index) {
-        None
-    } else {
-        Some(TaskRefusal::NotFound)
-    }
-}
-
-#[tactic(auto, using(crate::proofs::Rising::index_can_rise))]
+#[tactic(auto, using(crate::proofs::Rising::index_can_rise, meta_state::proofs::Tables::same_aliases))]
 fn set_opened(
     alloc: Global,
     state: &mut ClusterState,
@@ -234,14 +225,11 @@ fn turned(alloc: Global, index: &IndexMetadata, opened: bool) -> Result<IndexMet
     Ok(made)
 }
 
-/// Puts an index in place of the one that has its name.
-pub(crate) fn put_index(
-    state: &mut ClusterState,
-    name: &Text,
-    index: IndexMetadata,
-) -> Result<(), OutOfMemory>
+// Puts an index in place of the one that has its name and its aliases.
+fn put_index(state: &mut ClusterState, name: &Text, index: IndexMetadata) -> Result<(), OutOfMemory>
+    requires { index.aliases ≡ aliases_at name.now state.old.metadata.indices }
     ensures { OnOk result (state.new ≡ with_index state.old name.now index) }
 {
     let name = name.copy()?;
-    state.metadata.indices.set(name, index)
+    state.metadata.indices.set_keeping_aliases(name, index)
 }

@@ -33,8 +33,9 @@ fn why_not_change(key: &Text, value: &Option<Text>) -> Option<TaskRefusal>
     }
 }
 
-/// Whether it is 1 to 255 bytes of `a` to `z`, `0` to `9`, `.`, `_` and `-` that begin with a letter or a digit.
-fn is_setting_key(key: &Text) -> bool
+/// Whether it is a key that a setting may have: 1 to 255 bytes of `a` to `z`, `0` to `9`, `.`, `_` and `-` that begin
+/// with a letter or a digit.
+pub fn is_setting_key(key: &Text) -> bool
     ensures { result ≡ is_key key.now }
 {
     let bytes = key.as_bytes();

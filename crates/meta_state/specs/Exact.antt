@@ -2,10 +2,10 @@
 use Rattle.std.specs.Prelude.{◌≡◌, Bool, ◌==◌, ◌&&◌}
 use Rattle.std.proofs.Common.{ap}
 use Rattle.std.specs.Bool.{Decides, beq}
-use Rattle.std.specs.Cmp.{booleans_Decides, unsigned_Decides}
+use Rattle.std.specs.Cmp.{IsEquivalence, IsPartialEquivalence, on_equiv, and_equiv, partial_equiv_from_equiv, nat_eq_equiv, bool_eq_equiv, booleans_Decides, unsigned_Decides}
 use Rattle.std.specs.Cmp.Lexicographic.{pointwise, bytes_decides}
 use Rattle.std.proofs.lemmas.Bool.Decides.{Decides-and, Decides-like}
-use Rattle.plain_data.specs.Pairs.{pairs_eq, pairs_decides, unit_eq, unit_decides}
+use Rattle.plain_data.specs.Pairs.{pairs_eq, pairs_decides, pairs_equiv, unit_eq, unit_equiv, unit_decides}
 use Rattle.meta_state.specs.declared.nodes.NodeInfo.{NodeInfo}
 use Rattle.meta_state.specs.declared.indices.IndexMetadata.{IndexMetadata}
 use Rattle.meta_state.specs.declared.cluster_metadata.Metadata.{Metadata}
@@ -24,6 +24,20 @@ index_eq a b = (a.id == b.id) && ((a.version == b.version) && ((a.settings_versi
 pub index_decides : (a b : IndexMetadata) → Decides (index_eq a b) (a ≡ b)
 index_decides a b = Decides-like _ (λ e i. record { id = e.0 i; version = e.1.0 i; settings_version = e.1.1.0 i; aliases_version = e.1.1.1.0 i; opened = e.1.1.1.1.0 i; shards = e.1.1.1.1.1.0 i; replicas = e.1.1.1.1.1.1.0 i; aliases = e.1.1.1.1.1.1.1 i }) (λ e. (ap (λ (s : IndexMetadata). s.id) e, (ap (λ (s : IndexMetadata). s.version) e, (ap (λ (s : IndexMetadata). s.settings_version) e, (ap (λ (s : IndexMetadata). s.aliases_version) e, (ap (λ (s : IndexMetadata). s.opened) e, (ap (λ (s : IndexMetadata). s.shards) e, (ap (λ (s : IndexMetadata). s.replicas) e, ap (λ (s : IndexMetadata). s.aliases) e))))))))
     (Decides-and _ _ (unsigned_Decides a.id b.id) (Decides-and _ _ (unsigned_Decides a.version b.version) (Decides-and _ _ (unsigned_Decides a.settings_version b.settings_version) (Decides-and _ _ (unsigned_Decides a.aliases_version b.aliases_version) (Decides-and _ _ (booleans_Decides a.opened b.opened) (Decides-and _ _ (unsigned_Decides a.shards b.shards) (Decides-and _ _ (unsigned_Decides a.replicas b.replicas) (pairs_decides unit_decides a.aliases b.aliases))))))))
+
+pub index_equiv : IsEquivalence index_eq
+index_equiv =
+    and_equiv (on_equiv (λ i. i.id) nat_eq_equiv) (
+    and_equiv (on_equiv (λ i. i.version) nat_eq_equiv) (
+    and_equiv (on_equiv (λ i. i.settings_version) nat_eq_equiv) (
+    and_equiv (on_equiv (λ i. i.aliases_version) nat_eq_equiv) (
+    and_equiv (on_equiv (λ i. i.opened) bool_eq_equiv) (
+    and_equiv (on_equiv (λ i. i.shards) nat_eq_equiv) (
+    and_equiv (on_equiv (λ i. i.replicas) nat_eq_equiv) (
+    on_equiv (λ i. i.aliases) (pairs_equiv unit_equiv))))))))
+
+pub index_per : IsPartialEquivalence index_eq
+index_per = partial_equiv_from_equiv index_equiv
 
 abbrev pub metadata_eq : Metadata → Metadata → Bool
 metadata_eq a b = (a.version == b.version) && ((a.created == b.created) && ((pairs_eq (pointwise ◌==◌) a.settings b.settings) && (pairs_eq index_eq a.indices b.indices)))

@@ -5,4 +5,5 @@ pub mod Looks
 pub mod Names
 pub mod Predicates
 pub mod States
+pub mod Tables
 pub mod Versions

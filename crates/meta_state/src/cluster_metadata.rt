@@ -2,7 +2,7 @@ ghost use Rattle.std.specs.Prelude.{◌≡◌, IfOk};
 ghost use Rattle.meta_state.specs.Aliases.{has_alias};
 ghost use Rattle.meta_state.specs.Exact.{metadata_decides};
 
-use crate::indices::IndexMetadata;
+use crate::index_tables::Indices;
 use plain_data::{Exact, Map, OutOfMemory, Text};
 use std::alloc::Global;
 
@@ -19,7 +19,7 @@ pub struct Metadata {
     pub settings: Map<Text>,
 
     /// The indices, by name.
-    pub indices: Map<IndexMetadata>,
+    pub indices: Indices,
 }
 
 impl Metadata {
@@ -37,16 +37,11 @@ impl Metadata {
         })
     }
 
-    /// Whether some index has an alias.
+    /// Whether some index has an alias: a look-up, whose cost doesn't grow with the indices that have it.
     pub fn has_alias(&self, alias: &Text) -> bool
         ensures { result ≡ has_alias alias.now self.now.indices }
     {
-        for (_, index) in self.indices.iter() {
-            if index.aliases.contains(alias) {
-                return true;
-            }
-        }
-        false
+        self.indices.has_alias(alias)
     }
 }
 

@@ -3,6 +3,7 @@
 #![tactic(auto)]
 
 mod cluster_metadata;
+mod index_tables;
 mod indices;
 mod looks;
 mod naming;
@@ -14,6 +15,7 @@ mod versions;
 mod watches;
 
 pub use cluster_metadata::Metadata;
+pub use index_tables::Indices;
 pub use indices::IndexMetadata;
 pub use looks::{Found, Look, lookup};
 pub use naming::{InvalidName, check_index_name};

@@ -1,11 +1,10 @@
 ghost use Rattle.std.specs.Prelude.{◌≡◌, IfOk};
 ghost use Rattle.std.specs.Option.{option_copied};
-ghost use Rattle.meta_state.specs.Aliases.{names_with};
 ghost use Rattle.meta_state.specs.Looks.{found_at, found_index, found_names, found_value};
 
 use crate::indices::IndexMetadata;
 use crate::states::ClusterState;
-use plain_data::{Items, Map, OutOfMemory, Text};
+use plain_data::{Items, OutOfMemory, Text};
 use std::alloc::Global;
 
 /// What a reader looks at in a state.
@@ -50,7 +49,7 @@ pub fn lookup(alloc: Global, state: &ClusterState, look: &Look) -> Result<Found,
     match look {
         Look::Index(name) => Ok(index_found(state.metadata.indices.get(name))),
         Look::Alias(alias) => {
-            let names = names_of_alias(alloc, alias, &state.metadata.indices)?;
+            let names = state.metadata.indices.names_with(alloc, alias)?;
             Ok(names_found(names))
         }
         Look::Setting(key) => value_found(state.metadata.settings.get(key)),
@@ -69,22 +68,6 @@ fn index_found(index: Option<&IndexMetadata>) -> Found
             replicas: index.replicas,
         },
     }
-}
-
-fn names_of_alias(
-    alloc: Global,
-    alias: &Text,
-    indices: &Map<IndexMetadata>,
-) -> Result<Items<Text>, OutOfMemory>
-    ensures { IfOk result (λ made. made ≡ names_with alias.now indices.now) }
-{
-    let mut names = Items::new(alloc);
-    for (name, index) in indices.iter() {
-        if index.aliases.contains(alias) {
-            names.push(name.copy()?)?;
-        }
-    }
-    Ok(names)
 }
 
 fn names_found(names: Items<Text>) -> Found

@@ -3,6 +3,7 @@ ghost use Rattle.serde_json.specs.View.{view};
 ghost use Rattle.meta_state.specs.Json.{state_data, state_json, metadata_data, index_data, node_data, settings_data, indices_data, nodes_data, names_data};
 
 use crate::cluster_metadata::Metadata;
+use crate::index_tables::Indices;
 use crate::indices::IndexMetadata;
 use crate::nodes::NodeInfo;
 use crate::states::ClusterState;
@@ -90,7 +91,7 @@ fn node_value(alloc: Global, node: &NodeInfo) -> Result<Value, AllocError>
     json!(in alloc; {"eligible": eligible})
 }
 
-fn indices_value(alloc: Global, indices: &Map<IndexMetadata>) -> Result<Value, AllocError>
+fn indices_value(alloc: Global, indices: &Indices) -> Result<Value, AllocError>
     ensures { IfOk result (λ made. view made ≡ indices_data indices.now) }
 {
     let mut members = serde_json::Map::new(alloc);

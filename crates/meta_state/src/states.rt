@@ -3,6 +3,7 @@ ghost use Rattle.meta_state.specs.Exact.{state_decides};
 ghost use Rattle.meta_state.specs.States.{first_state, zero_state, no_metadata, with_nodes, IsRoomy, IsRoomyIndex, AreRoomy};
 
 use crate::cluster_metadata::Metadata;
+use crate::index_tables::Indices;
 use crate::indices::IndexMetadata;
 use crate::nodes::NodeInfo;
 use plain_data::{Exact, Map, OutOfMemory, Text};
@@ -130,7 +131,7 @@ fn empty_metadata(alloc: Global, version: u64) -> Metadata
         version,
         created: 0,
         settings: Map::new(alloc),
-        indices: Map::new(alloc),
+        indices: Indices::new(alloc),
     }
 }
 
@@ -140,7 +141,7 @@ fn is_index_roomy(index: &IndexMetadata) -> bool
     index.version < ROOM && index.settings_version < ROOM && index.aliases_version < ROOM
 }
 
-fn are_indices_roomy(indices: &Map<IndexMetadata>) -> bool
+fn are_indices_roomy(indices: &Indices) -> bool
     ensures { IsTrue result ↔ AreRoomy indices.now }
 {
     for (_, index) in indices.iter() {

@@ -1,5 +1,5 @@
 use crate::*;
-use plain_data::{Boxed, Items, NameSet, Text};
+use plain_data::{Boxed, Items, NameSet, OutOfMemory, Text};
 use std::alloc::Global;
 use std::process::Abort;
 use std::test::Fail;
@@ -462,5 +462,170 @@ fn a_look_at_nothing_finds_it_missing(rt: HostRuntime) -> Result<(), Fail> {
     assert!(rt; finds_names(alloc, "b2", Found::Missing)?);
     assert!(rt; finds_value(alloc, "k", Found::Missing)?);
     assert!(rt; zero_meets(alloc, 0)? && !zero_meets(alloc, 1)?);
+    Ok(())
+}
+
+// An index with these aliases.
+fn index_with(alloc: Global, aliases: &[&str]) -> Result<IndexMetadata, Fail> {
+    let mut made = index(alloc);
+    for alias in aliases {
+        made.aliases.insert(text(alloc, alias)?)?;
+    }
+    Ok(made)
+}
+
+// Whether these are the names of the indices that have an alias, in this order.
+fn has_names(alloc: Global, indices: &Indices, alias: &str, wanted: &[&str]) -> Result<bool, Fail> {
+    let alias = text(alloc, alias)?;
+    let mut names = Items::new(alloc);
+    for name in wanted {
+        names.push(text(alloc, name)?)?;
+    }
+    let found = indices.names_with(alloc, &alias)?;
+    Ok(found == names && indices.has_alias(&alias) == !wanted.is_empty())
+}
+
+fn put_aliased(
+    alloc: Global,
+    indices: &mut Indices,
+    name: &str,
+    aliases: &[&str],
+) -> Result<(), Fail> {
+    let made = index_with(alloc, aliases)?;
+    Ok(indices.set(text(alloc, name)?, made)?)
+}
+
+fn take_out(alloc: Global, indices: &mut Indices, name: &str) -> Result<(), Fail> {
+    let name = text(alloc, name)?;
+    Ok(indices.remove(&name)?)
+}
+
+// Two indices that share the alias "x"; each has one more of its own.
+fn sharing(alloc: Global) -> Result<Indices, Fail> {
+    let mut indices = Indices::new(alloc);
+    put_aliased(alloc, &mut indices, "b", &["x", "z"])?;
+    put_aliased(alloc, &mut indices, "a", &["y", "x"])?;
+    Ok(indices)
+}
+
+// Whether the indices have these names for "x", "y" and "z".
+fn have_names(
+    alloc: Global,
+    indices: &Indices,
+    x: &[&str],
+    y: &[&str],
+    z: &[&str],
+) -> Result<bool, Fail> {
+    Ok(
+        has_names(alloc, indices, "x", x)?
+            && has_names(alloc, indices, "y", y)?
+            && has_names(alloc, indices, "z", z)?,
+    )
+}
+
+#[test]
+fn an_alias_is_found_until_its_last_index_loses_it(rt: HostRuntime) -> Result<(), Fail> {
+    let alloc = rt.alloc();
+    let mut indices = sharing(alloc)?;
+    assert!(rt; have_names(alloc, &indices, &["a", "b"], &["a"], &["b"])?);
+    // another index at the name, with other aliases
+    put_aliased(alloc, &mut indices, "b", &["y"])?;
+    assert!(rt; have_names(alloc, &indices, &["a"], &["a", "b"], &[])?);
+    // an index taken out, and one that isn't there
+    take_out(alloc, &mut indices, "a")?;
+    take_out(alloc, &mut indices, "c")?;
+    assert!(rt; have_names(alloc, &indices, &[], &["b"], &[])?);
+    assert!(rt; indices.len() == 1);
+    Ok(())
+}
+
+#[test]
+fn a_copy_of_indices_stays_as_they_were(rt: HostRuntime) -> Result<(), Fail> {
+    let alloc = rt.alloc();
+    let mut indices = sharing(alloc)?;
+    let kept = indices.copy()?;
+    let cloned = kept.clone()?;
+    take_out(alloc, &mut indices, "a")?;
+    assert!(rt; have_names(alloc, &kept, &["a", "b"], &["a"], &["b"])?);
+    assert!(rt; kept == cloned);
+    assert!(rt; kept != indices);
+    Ok(())
+}
+
+#[tactic(auto, using(crate::proofs::Tables::one_alias_more))]
+fn add_alias(
+    alloc: Global,
+    indices: &mut Indices,
+    name: &Text,
+    alias: &Text,
+) -> Result<(), OutOfMemory> {
+    let Some(index) = indices.get(name) else {
+        return Ok(());
+    };
+    let mut made = index.copy(alloc)?;
+    made.aliases.insert(alias.copy()?)?;
+    indices.set_changing_alias(name.copy()?, made, alias)
+}
+
+#[tactic(auto, using(crate::proofs::Tables::one_alias_less))]
+fn remove_alias(
+    alloc: Global,
+    indices: &mut Indices,
+    name: &Text,
+    alias: &Text,
+) -> Result<(), OutOfMemory> {
+    let Some(index) = indices.get(name) else {
+        return Ok(());
+    };
+    let mut made = index.copy(alloc)?;
+    made.aliases.remove(alias)?;
+    indices.set_changing_alias(name.copy()?, made, alias)
+}
+
+#[tactic(auto, using(crate::proofs::Tables::same_aliases))]
+fn close(alloc: Global, indices: &mut Indices, name: &Text) -> Result<(), OutOfMemory> {
+    let Some(index) = indices.get(name) else {
+        return Ok(());
+    };
+    let mut made = index.copy(alloc)?;
+    made.opened = false;
+    indices.set_keeping_aliases(name.copy()?, made)
+}
+
+fn add(alloc: Global, indices: &mut Indices, name: &str, alias: &str) -> Result<(), Fail> {
+    let name = text(alloc, name)?;
+    let alias = text(alloc, alias)?;
+    Ok(add_alias(alloc, indices, &name, &alias)?)
+}
+
+fn take(alloc: Global, indices: &mut Indices, name: &str, alias: &str) -> Result<(), Fail> {
+    let name = text(alloc, name)?;
+    let alias = text(alloc, alias)?;
+    Ok(remove_alias(alloc, indices, &name, &alias)?)
+}
+
+#[test]
+fn an_alias_alone_is_added_and_taken_away(rt: HostRuntime) -> Result<(), Fail> {
+    let alloc = rt.alloc();
+    let mut indices = sharing(alloc)?;
+    add(alloc, &mut indices, "b", "y")?;
+    // it has it already
+    add(alloc, &mut indices, "b", "y")?;
+    assert!(rt; have_names(alloc, &indices, &["a", "b"], &["a", "b"], &["b"])?);
+    take(alloc, &mut indices, "a", "y")?;
+    take(alloc, &mut indices, "b", "y")?;
+    take(alloc, &mut indices, "a", "x")?;
+    assert!(rt; have_names(alloc, &indices, &["b"], &[], &["b"])?);
+    Ok(())
+}
+
+#[test]
+fn an_index_changes_while_its_aliases_stay(rt: HostRuntime) -> Result<(), Fail> {
+    let alloc = rt.alloc();
+    let mut indices = sharing(alloc)?;
+    let name = text(alloc, "a")?;
+    close(alloc, &mut indices, &name)?;
+    assert!(rt; have_names(alloc, &indices, &["a", "b"], &["a"], &["b"])?);
+    assert!(rt; indices != sharing(alloc)?);
     Ok(())
 }

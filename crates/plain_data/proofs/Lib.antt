@@ -1,3 +1,4 @@
-mod At
+pub mod At
+pub mod Lookups
 mod Order
 mod Walks

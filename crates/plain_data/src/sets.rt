@@ -1,5 +1,9 @@
 ghost use Rattle.std.specs.Prelude.{◌≡◌, [], length, IfOk, OnOk, OnErr, is_some, IsTrue, ◌↔◌};
 ghost use Rattle.std.specs.Iterator.{at_most};
+ghost use Rattle.std.specs.Ordering.{nat_cmp};
+ghost use Rattle.std.specs.Cmp.Lexicographic.{slice_cmp};
+ghost use Rattle.std.specs.List.Sorted.{IsStrictlySortedBy};
+ghost use Rattle.std.specs.Map.{keys_of};
 ghost use Rattle.std.specs.Map.Iter.{TakesFirst};
 ghost use Rattle.plain_data.specs.Pairs.{lookup, with, without, a_name};
 
@@ -41,8 +45,12 @@ impl NameSet {
         self.names.contains_key(name)
     }
 
+    /// How many names it has.
     pub fn len(&self) -> usize
-        ensures { result ≡ length self.now }
+        ensures len { result ≡ length self.now }
+
+        // The names stand in byte order, each once.
+        ensures ordered { IsStrictlySortedBy (slice_cmp nat_cmp) (keys_of self.now) }
     {
         self.names.len()
     }

@@ -9,8 +9,8 @@ use crate::records::NodeRec;
 use crate::replies::Reply;
 use crate::sessions::Session;
 use executors::TaskEnd;
-use meta_state::IndexMetadata;
-use plain_data::{Map, NameSet, OutOfMemory, Text};
+use meta_state::Indices;
+use plain_data::{NameSet, OutOfMemory, Text};
 use std::alloc::Global;
 
 /// The summary of a session, in one line: how many tasks ended and how many of them well, how many indices and distinct
@@ -49,7 +49,7 @@ fn count_ok(replies: &[Reply]) -> usize
 }
 
 /// The aliases of some indices, each once.
-fn aliases_in(alloc: Global, indices: &Map<IndexMetadata>) -> Result<NameSet, OutOfMemory>
+fn aliases_in(alloc: Global, indices: &Indices) -> Result<NameSet, OutOfMemory>
     ensures { IfOk result (λ made. made ≡ with_aliases_of indices.now []) }
 {
     let mut names = NameSet::new(alloc);
