@@ -19,7 +19,7 @@ use Rattle.session_law.specs.Laws.{AnswersAreFirstHits, AppliedWasHanded, IsFirs
 use Rattle.session_law.specs.NodeRecords.{Commit, commits_to, does_fail}
 use Rattle.session_law.specs.Views.{views_of, with_indices}
 use Rattle.session_law.specs.Watches as watched
-use Rattle.session_law.specs.Watches.{IsAnsweredBy, IsPart, IsPartEnd, IsPartWith, IsWatchPart, answer_of, final_place, is_hit_by, pred_of, states_at}
+use Rattle.session_law.specs.Watches.{IsAnsweredBy, IsPart, IsPartEnd, IsPartWith, IsWatchPart, answer_of, final_place, is_hit_by, states_at}
 
 -- ---- watches
 

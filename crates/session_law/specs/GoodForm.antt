@@ -1,6 +1,6 @@
--- Good form: what a session must be for its report to tell it whole; that it does is not proved yet. All names are
--- names, lists of names and maps are in byte order, no task stands twice in a batch, versions rise, and the lists of the
--- session are in the order of their lines. It is this project's own.
+-- Good form: what a session must be for its report to tell it whole, as `reports_fix_sessions` says. All names are names,
+-- lists of names and maps are in byte order, no task stands twice in a batch, versions rise, and the lists of the session are
+-- in the order of their lines. It is this project's own.
 use Rattle.std.specs.Prelude.{ℕ, ◌&&◌, Bool, true, not, List, [], ◌∷◌, is_none, map, nat_lt, bytes_eq, IsTrue}
 use Rattle.std.specs.Cmp.Lexicographic.{slice_cmp}
 use Rattle.std.specs.List.{list_all, list_any}

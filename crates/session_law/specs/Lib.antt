@@ -1,4 +1,6 @@
 pub mod Acknowledgements
+pub mod Awaiting
+pub mod Bounds
 pub mod Changes
 pub mod Committed
 pub mod DueTimes
@@ -9,6 +11,7 @@ pub mod Joining
 pub mod Lawful
 pub mod Laws
 pub mod Lines
+pub mod Mixed
 pub mod NodeLines
 pub mod NodeRecords
 pub mod Outcomes
@@ -19,7 +22,9 @@ pub mod Reports
 pub mod ScriptSteps
 pub mod SerialHistories
 pub mod Steps
+pub mod Stopped
 pub mod Summaries
+pub mod Troubled
 pub mod ViewJson
 pub mod Views
 pub mod Watches

@@ -11,7 +11,7 @@ use Rattle.session_law.specs.declared.batches.BatchResult.{BatchResult}
 use Rattle.session_law.specs.declared.batches.BatchResult.TheVariants as result
 use Rattle.session_law.specs.declared.batches.Entry.{Entry}
 use Rattle.session_law.specs.declared.replies.Reply.{Reply}
-use Rattle.session_law.specs.Joining.{list_text}
+use Rattle.session_law.specs.Joining.{lines_text, list_text}
 
 abbrev pub line_end : List ℕ
 line_end = codes "\n"
@@ -61,8 +61,7 @@ reply_line reply =
     codes "task " ++ (decimal reply.client ++ (codes "." ++ (decimal reply.step ++ (codes " at " ++ (decimal reply.at ++ (codes " " ++ (end_text reply.end ++ line_end)))))))
 
 abbrev pub reply_lines : List Reply → List ℕ
-reply_lines [] = []
-reply_lines (reply ∷ replies) = reply_line reply ++ reply_lines replies
+reply_lines replies = lines_text reply_line replies
 
 -- ---- state JSON
 

@@ -7,7 +7,7 @@ use Rattle.session_law.specs.declared.records.ApplyEnd.TheVariants.{Failed, Appl
 use Rattle.session_law.specs.declared.records.Change.{Change}
 use Rattle.session_law.specs.declared.records.NodeRec.{NodeRec}
 use Rattle.session_law.specs.declared.records.View.{View}
-use Rattle.session_law.specs.Joining.{names_text, numbers_text}
+use Rattle.session_law.specs.Joining.{lines_text, names_text, numbers_text}
 use Rattle.session_law.specs.Lines.{line_end}
 use Rattle.session_law.specs.ViewJson.{view_json}
 
@@ -56,8 +56,7 @@ apply_line name apply =
     codes "apply " ++ (name ++ (codes " " ++ (decimal apply.from ++ (codes ">" ++ (decimal apply.to ++ (apply_end_text apply.end ++ line_end))))))
 
 abbrev pub apply_lines : List ℕ → List Apply → List ℕ
-apply_lines name [] = []
-apply_lines name (apply ∷ applies) = apply_line name apply ++ apply_lines name applies
+apply_lines name applies = lines_text (apply_line name) applies
 
 -- ---- view N JSON
 
@@ -70,5 +69,4 @@ abbrev pub node_text : NodeRec → List ℕ
 node_text node = node_head node ++ (apply_lines node.node node.applies ++ view_line node.node node.view)
 
 abbrev pub node_lines : List NodeRec → List ℕ
-node_lines [] = []
-node_lines (node ∷ nodes) = node_text node ++ node_lines nodes
+node_lines nodes = lines_text node_text nodes

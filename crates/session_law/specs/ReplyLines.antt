@@ -1,5 +1,5 @@
 -- The lines of acknowledgements, watches and reads, each ended by a line feed. Their form is this project's own.
-use Rattle.std.specs.Prelude.{ℕ, Bool, List, [], ◌∷◌, ◌++◌, Option, Some, None, codes, decimal, if◌then◌else◌}
+use Rattle.std.specs.Prelude.{ℕ, Bool, List, ◌++◌, Option, Some, None, codes, decimal, if◌then◌else◌}
 use Rattle.serde_json.specs.Data.{string}
 use Rattle.serde_json.specs.Written.{compact_text}
 use Rattle.meta_state.specs.declared.looks.Found.{Found}
@@ -11,7 +11,7 @@ use Rattle.session_law.specs.declared.replies.AckReply.{AckReply}
 use Rattle.session_law.specs.declared.watchings.Watch.{Watch}
 use Rattle.session_law.specs.declared.watchings.WatchEnd.{WatchEnd}
 use Rattle.session_law.specs.declared.watchings.WatchEnd.TheVariants as watch
-use Rattle.session_law.specs.Joining.{names_text}
+use Rattle.session_law.specs.Joining.{lines_text, names_text}
 use Rattle.session_law.specs.Lines.{line_end}
 
 abbrev pub timeout_text : ℕ → ℕ → List ℕ
@@ -29,8 +29,7 @@ ack_line ack =
     codes "ack " ++ (decimal ack.client ++ (codes "." ++ (decimal ack.step ++ (codes " " ++ (ack_end_text ack.end ++ line_end)))))
 
 abbrev pub ack_lines : List AckReply → List ℕ
-ack_lines [] = []
-ack_lines (ack ∷ acks) = ack_line ack ++ ack_lines acks
+ack_lines acks = lines_text ack_line acks
 
 -- ---- watch c.s.p at T last L from I shown C END
 
@@ -52,8 +51,7 @@ watch_line watch =
     (codes " " ++ (watch_end_text watch.end ++ line_end)))))))))))))))
 
 abbrev pub watch_lines : List Watch → List ℕ
-watch_lines [] = []
-watch_lines (watch ∷ watches) = watch_line watch ++ watch_lines watches
+watch_lines watches = lines_text watch_line watches
 
 -- ---- read c.s version V FOUND
 
@@ -76,5 +74,4 @@ read_line read =
     codes "read " ++ (decimal read.client ++ (codes "." ++ (decimal read.step ++ (codes " version " ++ (decimal read.version ++ (codes " " ++ (found_text read.found ++ line_end)))))))
 
 abbrev pub read_lines : List Read → List ℕ
-read_lines [] = []
-read_lines (read ∷ reads) = read_line read ++ read_lines reads
+read_lines reads = lines_text read_line reads

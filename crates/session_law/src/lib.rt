@@ -2,6 +2,8 @@
 #![tactic(auto)]
 
 mod batches;
+mod bounds;
+mod good_forms;
 mod joining;
 mod laws;
 mod lines;
@@ -18,9 +20,15 @@ mod watchings;
 mod worlds;
 
 pub use batches::{Batch, BatchResult, Entry};
+pub use bounds::numbers_are_words;
+pub use good_forms::is_good_form;
 pub use laws::{
-    answers_are_first_hits, applied_was_handed, changed_sessions_are_unlawful,
-    others_keep_the_state, publications_are_counted, tasks_stand_once, versions_are_in_order,
+    answers_are_first_hits, applied_was_handed, awaiting_session_is_lawful,
+    changed_awaiting_sessions_are_unlawful, changed_mixed_sessions_are_unlawful,
+    changed_sessions_are_unlawful, changed_stopped_sessions_are_unlawful,
+    changed_troubled_sessions_are_unlawful, mixed_session_is_lawful, one_of_its_report,
+    open_choices_are_lawful, others_keep_the_state, publications_are_counted, reports_fix_sessions,
+    stopped_session_is_lawful, tasks_stand_once, troubled_session_is_lawful, versions_are_in_order,
     views_are_empty, worked_session_is_lawful,
 };
 pub use looks::Read;
@@ -32,5 +40,7 @@ pub use summing::summary_text;
 pub use watchings::{Watch, WatchEnd};
 pub use worlds::{NodeWorld, Reach, Stepped, World};
 
+#[cfg(test)]
+mod form_tests;
 #[cfg(test)]
 mod tests;

@@ -29,11 +29,11 @@ fn session(alloc: Global, batches: Vec<Batch>, replies: Vec<Reply>) -> Result<Se
     })
 }
 
-fn entry(client: u32, step: u32, seen: u32) -> Entry {
+pub(crate) fn entry(client: u32, step: u32, seen: u32) -> Entry {
     Entry { client, step, seen }
 }
 
-fn batch(
+pub(crate) fn batch(
     alloc: Global,
     queue: &str,
     at: u64,
@@ -69,7 +69,7 @@ const DROPPED: BatchResult = BatchResult::PublishFailed {
     accepted: 10,
 };
 
-fn batches(alloc: Global) -> Result<Vec<Batch>, Fail> {
+pub(crate) fn batches(alloc: Global) -> Result<Vec<Batch>, Fail> {
     // queue and time of a batch, its tasks, and what came of it
     let table: [(&str, u64, &[Entry], BatchResult); 5] = [
         (
@@ -100,7 +100,7 @@ fn batches(alloc: Global) -> Result<Vec<Batch>, Fail> {
     Ok(made)
 }
 
-fn replies(alloc: Global) -> Result<Vec<Reply>, Fail> {
+pub(crate) fn replies(alloc: Global) -> Result<Vec<Reply>, Fail> {
     let refusal = TaskRefusal::FinalSetting;
     // client, step and time of a task, and how it ended
     let table = [
@@ -172,7 +172,7 @@ fn a_report_has_a_line_for_each_batch_each_task_and_the_state(rt: HostRuntime) -
     Ok(())
 }
 
-fn names(alloc: Global, words: &[&str]) -> Result<Items<Text>, Fail> {
+pub(crate) fn names(alloc: Global, words: &[&str]) -> Result<Items<Text>, Fail> {
     let mut made = Vec::new(alloc);
     for word in words {
         made.push(Text::from_str(alloc, word)?)?;
@@ -180,7 +180,7 @@ fn names(alloc: Global, words: &[&str]) -> Result<Items<Text>, Fail> {
     Ok(Items::from_vec(made))
 }
 
-fn acks(alloc: Global) -> Result<Items<AckReply>, Fail> {
+pub(crate) fn acks(alloc: Global) -> Result<Items<AckReply>, Fail> {
     let table = [
         (0, 0, AckEnd::All),
         (0, 3, AckEnd::Failed { count: 2 }),
@@ -200,7 +200,7 @@ fn acks(alloc: Global) -> Result<Items<AckReply>, Fail> {
     Ok(Items::from_vec(made))
 }
 
-fn watches(alloc: Global) -> Result<Items<Watch>, Fail> {
+pub(crate) fn watches(alloc: Global) -> Result<Items<Watch>, Fail> {
     let timeout = WatchEnd::Timeout {
         deadline: 12,
         reading: 13,
@@ -245,7 +245,7 @@ fn found_index(id: u64, opened: bool, shards: u64, replicas: u64) -> Found {
     }
 }
 
-fn read(client: u32, step: u32, version: u64, found: Found) -> Read {
+pub(crate) fn read(client: u32, step: u32, version: u64, found: Found) -> Read {
     Read {
         client,
         step,
@@ -254,7 +254,7 @@ fn read(client: u32, step: u32, version: u64, found: Found) -> Read {
     }
 }
 
-fn found_names(alloc: Global, words: &[&str]) -> Result<Found, Fail> {
+pub(crate) fn found_names(alloc: Global, words: &[&str]) -> Result<Found, Fail> {
     Ok(Found::Names(names(alloc, words)?))
 }
 
@@ -262,7 +262,7 @@ fn found_value(alloc: Global, value: &str) -> Result<Found, Fail> {
     Ok(Found::Value(Text::from_str(alloc, value)?))
 }
 
-fn reads(alloc: Global) -> Result<Items<Read>, Fail> {
+pub(crate) fn reads(alloc: Global) -> Result<Items<Read>, Fail> {
     let mut made = Items::new(alloc);
     made.push(read(0, 8, 5, found_names(alloc, &["logs-1", "logs-2"])?))?;
     made.push(read(0, 9, 6, found_index(3, true, 2, 1)))?;
@@ -273,7 +273,7 @@ fn reads(alloc: Global) -> Result<Items<Read>, Fail> {
     Ok(made)
 }
 
-fn applied(from: u64, to: u64, phases: [u64; 4], change: Change) -> Apply {
+pub(crate) fn applied(from: u64, to: u64, phases: [u64; 4], change: Change) -> Apply {
     let [high, normal, low, listeners] = phases;
     Apply {
         from,
@@ -373,7 +373,7 @@ fn full_view(alloc: Global) -> Result<View, Fail> {
 }
 
 // A node that began with a version, and was handed nothing.
-fn idle(alloc: Global, name: &str, first: u64) -> Result<NodeRec, Fail> {
+pub(crate) fn idle(alloc: Global, name: &str, first: u64) -> Result<NodeRec, Fail> {
     let node = Text::from_str(alloc, name)?;
     let view = View {
         aliases: Map::new(alloc),
@@ -399,14 +399,14 @@ fn busy(alloc: Global) -> Result<NodeRec, Fail> {
     })
 }
 
-fn nodes(alloc: Global) -> Result<Items<NodeRec>, Fail> {
+pub(crate) fn nodes(alloc: Global) -> Result<Items<NodeRec>, Fail> {
     let mut made = Items::new(alloc);
     made.push(busy(alloc)?)?;
     made.push(idle(alloc, "n9", 0)?)?;
     Ok(made)
 }
 
-fn index(alloc: Global, id: u64, aliases: &[&str]) -> Result<IndexMetadata, Fail> {
+pub(crate) fn index(alloc: Global, id: u64, aliases: &[&str]) -> Result<IndexMetadata, Fail> {
     let mut set = NameSet::new(alloc);
     for alias in aliases {
         set.insert(Text::from_str(alloc, alias)?)?;
@@ -470,7 +470,7 @@ fn a_report_has_a_line_for_each_ack_watch_and_read_and_the_lines_of_each_node(
     Ok(())
 }
 
-fn with_indices(alloc: Global) -> Result<ClusterState, Fail> {
+pub(crate) fn with_indices(alloc: Global) -> Result<ClusterState, Fail> {
     let mut state = demo(alloc)?;
     let indices = &mut state.metadata.indices;
     indices.set(
