@@ -6,6 +6,8 @@ mod commands;
 mod exits;
 mod replays;
 #[cfg(test)]
+mod script_tests;
+#[cfg(test)]
 mod tests;
 
 use commands::esmaster;

@@ -23,6 +23,3 @@ pub use limits::LimitName;
 pub use reading::read_script;
 pub use refusals::ScriptRefusal;
 pub use rules::Rule;
-
-#[cfg(test)]
-mod tests;

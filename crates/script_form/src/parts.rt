@@ -1,7 +1,7 @@
 ghost use Rattle.std.specs.Prelude.{◌≡◌, ◌≤◌, IfOk, IsTrue, bytes_eq, length, map, option_map};
-ghost use Rattle.std.specs.List.{list_all, list_any};
+ghost use Rattle.std.specs.List.{list_any};
 ghost use Rattle.serde_json.specs.View.{view, members_view};
-ghost use Rattle.executors.specs.Scripts.{is_name, is_name_start, is_name_byte, begins_well, is_time, is_timeout};
+ghost use Rattle.executors.specs.Scripts.{is_name, is_time, is_timeout};
 ghost use Rattle.script_form.specs.Misfits.{Reads};
 ghost use Rattle.script_form.specs.Parts.{are_known, data_of, flag_of, list_of, member_of, name_of, object_of, optional, required, short_list, text_of, time_of, positive_of, whole_of};
 ghost use Rattle.script_form.specs.Parts as spec;
@@ -9,6 +9,7 @@ ghost use Rattle.script_form.specs.Parts as spec;
 use crate::limits::LimitName;
 use crate::misfits::{Misfit, against, in_member, too_many};
 use crate::rules::Rule;
+use executors::is_a_name;
 use plain_data::{OutOfMemory, Text};
 use serde_json::{Map, Value};
 use std::alloc::Global;
@@ -241,38 +242,4 @@ pub(crate) fn name_in(alloc: Global, value: &Value) -> Result<Text, Misfit>
         return Err(against(alloc, Rule::Name));
     }
     Ok(Text::from_str(alloc, text)?)
-}
-
-fn is_a_name(text: &str) -> bool
-    ensures { result ≡ is_name text.now }
-{
-    let bytes = text.as_bytes();
-    does_begin_well(bytes) && bytes.len() <= 64 && has_bytes_of_names(bytes)
-}
-
-fn has_bytes_of_names(bytes: &[u8]) -> bool
-    ensures { result ≡ list_all is_name_byte bytes.now }
-{
-    bytes.iter().all(|byte| is_byte_of_names(*byte))
-}
-
-fn does_begin_well(bytes: &[u8]) -> bool
-    ensures { result ≡ begins_well bytes.now }
-{
-    match bytes.first() {
-        None => false,
-        Some(first) => is_start_of_names(*first),
-    }
-}
-
-fn is_start_of_names(byte: u8) -> bool
-    ensures { result ≡ is_name_start byte }
-{
-    matches!(byte, b'a'..=b'z' | b'0'..=b'9')
-}
-
-fn is_byte_of_names(byte: u8) -> bool
-    ensures { result ≡ is_name_byte byte }
-{
-    is_start_of_names(byte) || byte == b'_' || byte == b'-'
 }

@@ -1,4 +1,4 @@
-use crate::read_script;
+use script_form::read_script;
 use std::alloc::Global;
 use std::test::Fail;
 
