@@ -29,6 +29,18 @@ fn good(alloc: Global) -> Result<Session, Fail> {
     })
 }
 
+// Whether the session is still of good form after a change.
+fn judged<F: FnOnce(&mut Session) -> Result<(), Fail>>(
+    alloc: Global,
+    change: F,
+) -> Result<bool, Fail>
+    requires { F.IsAlwaysCallable change }
+{
+    let mut made = good(alloc)?;
+    change(&mut made)?;
+    Ok(is_good_form(&made))
+}
+
 #[test]
 fn a_session_of_good_form_has_something_of_every_kind(rt: HostRuntime) -> Result<(), Fail> {
     let alloc = rt.alloc();
@@ -38,11 +50,15 @@ fn a_session_of_good_form_has_something_of_every_kind(rt: HostRuntime) -> Result
 
 // ---- batches
 
-fn with_batch(alloc: Global, queue: &str, entries: &[Entry]) -> Result<Session, Fail> {
-    let mut made = good(alloc)?;
+fn put_batch(
+    alloc: Global,
+    made: &mut Session,
+    queue: &str,
+    entries: &[Entry],
+) -> Result<(), Fail> {
     let more = batch(alloc, queue, 20, entries, BatchResult::NotMaster)?;
     made.batches.push(more)?;
-    Ok(made)
+    Ok(())
 }
 
 #[test]
@@ -57,8 +73,11 @@ fn the_queue_of_a_batch_has_a_name(rt: HostRuntime) -> Result<(), Fail> {
         ("q.1", false),
     ];
     for (queue, is_good) in table {
-        let made = with_batch(alloc, queue, &[entry(5, 0, 0)])?;
-        assert!(rt; is_good_form(&made) == is_good, "{queue}");
+        let found = judged(
+            alloc,
+            |made| put_batch(alloc, made, queue, &[entry(5, 0, 0)]),
+        )?;
+        assert!(rt; found == is_good, "{queue}");
     }
     Ok(())
 }
@@ -75,16 +94,15 @@ fn no_task_stands_twice_in_a_batch(rt: HostRuntime) -> Result<(), Fail> {
         (&[entry(5, 0, 0), entry(6, 0, 0), entry(6, 0, 0)], false),
     ];
     for (entries, is_good) in table {
-        let made = with_batch(alloc, "create", entries)?;
-        assert!(rt; is_good_form(&made) == is_good);
+        let found = judged(alloc, |made| put_batch(alloc, made, "create", entries))?;
+        assert!(rt; found == is_good);
     }
     Ok(())
 }
 
 // ---- the order of lists
 
-fn with_reply(alloc: Global, client: u32, step: u32) -> Result<Session, Fail> {
-    let mut made = good(alloc)?;
+fn put_reply(alloc: Global, made: &mut Session, client: u32, step: u32) -> Result<(), Fail> {
     let end = TaskEnd::NotMaster;
     made.replies.push(Reply {
         client,
@@ -92,14 +110,13 @@ fn with_reply(alloc: Global, client: u32, step: u32) -> Result<Session, Fail> {
         at: 0,
         end,
     })?;
-    Ok(made)
+    Ok(())
 }
 
-fn with_ack(alloc: Global, client: u32, step: u32) -> Result<Session, Fail> {
-    let mut made = good(alloc)?;
+fn put_ack(alloc: Global, made: &mut Session, client: u32, step: u32) -> Result<(), Fail> {
     let end = AckEnd::All;
     made.acks.push(AckReply { client, step, end })?;
-    Ok(made)
+    Ok(())
 }
 
 #[test]
@@ -114,16 +131,21 @@ fn replies_and_acks_stand_by_client_and_step(rt: HostRuntime) -> Result<(), Fail
         (0, 11, false),
     ];
     for (client, step, is_good) in table {
-        let made = with_reply(alloc, client, step)?;
-        assert!(rt; is_good_form(&made) == is_good, "reply {client}.{step}");
-        let made = with_ack(alloc, client, step)?;
-        assert!(rt; is_good_form(&made) == is_good, "ack {client}.{step}");
+        let found = judged(alloc, |made| put_reply(alloc, made, client, step))?;
+        assert!(rt; found == is_good, "reply {client}.{step}");
+        let found = judged(alloc, |made| put_ack(alloc, made, client, step))?;
+        assert!(rt; found == is_good, "ack {client}.{step}");
     }
     Ok(())
 }
 
-fn with_watch(alloc: Global, client: u32, step: u32, part: u32) -> Result<Session, Fail> {
-    let mut made = good(alloc)?;
+fn put_watch(
+    alloc: Global,
+    made: &mut Session,
+    client: u32,
+    step: u32,
+    part: u32,
+) -> Result<(), Fail> {
     made.watches.push(Watch {
         client,
         step,
@@ -134,7 +156,7 @@ fn with_watch(alloc: Global, client: u32, step: u32, part: u32) -> Result<Sessio
         shown: 0,
         end: WatchEnd::Answered { version: 1 },
     })?;
-    Ok(made)
+    Ok(())
 }
 
 #[test]
@@ -150,19 +172,24 @@ fn watches_stand_by_client_step_and_part(rt: HostRuntime) -> Result<(), Fail> {
         (0, 7, 1, false),
     ];
     for (client, step, part, is_good) in table {
-        let made = with_watch(alloc, client, step, part)?;
-        assert!(rt; is_good_form(&made) == is_good, "{client}.{step}.{part}");
+        let found = judged(alloc, |made| put_watch(alloc, made, client, step, part))?;
+        assert!(rt; found == is_good, "{client}.{step}.{part}");
     }
     Ok(())
 }
 
 // ---- reads
 
-fn with_read(alloc: Global, client: u32, step: u32, words: &[&str]) -> Result<Session, Fail> {
-    let mut made = good(alloc)?;
+fn put_read(
+    alloc: Global,
+    made: &mut Session,
+    client: u32,
+    step: u32,
+    words: &[&str],
+) -> Result<(), Fail> {
     let found = found_names(alloc, words)?;
     made.reads.push(read(client, step, 1, found))?;
-    Ok(made)
+    Ok(())
 }
 
 #[test]
@@ -177,8 +204,8 @@ fn reads_stand_by_client_and_step(rt: HostRuntime) -> Result<(), Fail> {
         (0, 4, false),
     ];
     for (client, step, is_good) in table {
-        let made = with_read(alloc, client, step, &["a"])?;
-        assert!(rt; is_good_form(&made) == is_good, "{client}.{step}");
+        let found = judged(alloc, |made| put_read(alloc, made, client, step, &["a"]))?;
+        assert!(rt; found == is_good, "{client}.{step}");
     }
     Ok(())
 }
@@ -195,18 +222,16 @@ fn found_names_are_index_names_in_byte_order(rt: HostRuntime) -> Result<(), Fail
         (&["a", "b,c"], false),
     ];
     for (words, is_good) in table {
-        let made = with_read(alloc, 2, 0, words)?;
-        assert!(rt; is_good_form(&made) == is_good);
+        let found = judged(alloc, |made| put_read(alloc, made, 2, 0, words))?;
+        assert!(rt; found == is_good);
     }
     Ok(())
 }
 
 // ---- records of nodes
 
-fn with_node(alloc: Global, node: NodeRec) -> Result<Session, Fail> {
-    let mut made = good(alloc)?;
-    made.nodes.push(node)?;
-    Ok(made)
+fn put_node(made: &mut Session, node: NodeRec) -> Result<(), Fail> {
+    Ok(made.nodes.push(node)?)
 }
 
 #[test]
@@ -220,16 +245,16 @@ fn each_record_has_a_name_of_its_own(rt: HostRuntime) -> Result<(), Fail> {
         ("n9", false),
     ];
     for (name, is_good) in table {
-        let made = with_node(alloc, idle(alloc, name, 1)?)?;
-        assert!(rt; is_good_form(&made) == is_good, "{name}");
+        let found = judged(alloc, |made| put_node(made, idle(alloc, name, 1)?))?;
+        assert!(rt; found == is_good, "{name}");
     }
     Ok(())
 }
 
-fn with_handed(alloc: Global, versions: &[u64]) -> Result<Session, Fail> {
+fn put_handed(alloc: Global, made: &mut Session, versions: &[u64]) -> Result<(), Fail> {
     let mut node = idle(alloc, "n1", 1)?;
     node.handed = Items::from_vec(versions.to_vec(alloc)?);
-    with_node(alloc, node)
+    put_node(made, node)
 }
 
 #[test]
@@ -243,8 +268,8 @@ fn handed_versions_rise(rt: HostRuntime) -> Result<(), Fail> {
         (&[3, 2, 4], false),
     ];
     for (versions, is_good) in table {
-        let made = with_handed(alloc, versions)?;
-        assert!(rt; is_good_form(&made) == is_good);
+        let found = judged(alloc, |made| put_handed(alloc, made, versions))?;
+        assert!(rt; found == is_good);
     }
     Ok(())
 }
@@ -284,13 +309,13 @@ fn failed_to(version: u64) -> Apply {
 }
 
 // A node that began with version 2, applied one, failed at another and applied a last one.
-fn with_applied(alloc: Global, versions: [u64; 3]) -> Result<Session, Fail> {
+fn put_applied(alloc: Global, made: &mut Session, versions: [u64; 3]) -> Result<(), Fail> {
     let [first, second, last] = versions;
     let mut node = idle(alloc, "n1", 2)?;
     node.applies.push(applied_to(alloc, first)?)?;
     node.applies.push(failed_to(second))?;
     node.applies.push(applied_to(alloc, last)?)?;
-    with_node(alloc, node)
+    put_node(made, node)
 }
 
 #[test]
@@ -305,17 +330,17 @@ fn applied_versions_rise_from_the_first(rt: HostRuntime) -> Result<(), Fail> {
         ([4, 5, 3], false),
     ];
     for (versions, is_good) in table {
-        let made = with_applied(alloc, versions)?;
-        assert!(rt; is_good_form(&made) == is_good);
+        let found = judged(alloc, |made| put_applied(alloc, made, versions))?;
+        assert!(rt; found == is_good);
     }
     Ok(())
 }
 
-fn with_change(alloc: Global, place: usize, words: &[&str]) -> Result<Session, Fail> {
+fn put_change(alloc: Global, made: &mut Session, place: usize, words: &[&str]) -> Result<(), Fail> {
     let mut node = idle(alloc, "n1", 1)?;
     let change = change_at(alloc, place, words)?;
     node.applies.push(applied(1, 2, [2, 2, 2, 2], change))?;
-    with_node(alloc, node)
+    put_node(made, node)
 }
 
 #[test]
@@ -329,8 +354,8 @@ fn each_list_of_a_change_has_names_in_byte_order(rt: HostRuntime) -> Result<(), 
     ];
     for place in 0..6 {
         for (words, is_good) in table {
-            let made = with_change(alloc, place, words)?;
-            assert!(rt; is_good_form(&made) == is_good, "list {place}");
+            let found = judged(alloc, |made| put_change(alloc, made, place, words))?;
+            assert!(rt; found == is_good, "list {place}");
         }
     }
     Ok(())
@@ -347,21 +372,22 @@ fn each_list_of_a_change_has_names_of_its_kind(rt: HostRuntime) -> Result<(), Fa
     ];
     for (word, answers) in table {
         for (place, is_good) in answers.into_iter().enumerate() {
-            let made = with_change(alloc, place, &[word])?;
-            assert!(rt; is_good_form(&made) == is_good, "{word} in list {place}");
+            let found = judged(alloc, |made| put_change(alloc, made, place, &[word]))?;
+            assert!(rt; found == is_good, "{word} in list {place}");
         }
     }
     Ok(())
 }
 
 // A node whose views have one alias, one index and one setting.
-fn with_view(
+fn put_view(
     alloc: Global,
+    made: &mut Session,
     alias: &str,
     words: &[&str],
     name: &str,
     key: &str,
-) -> Result<Session, Fail> {
+) -> Result<(), Fail> {
     let mut node = idle(alloc, "n1", 1)?;
     let view = &mut node.view;
     view.aliases
@@ -369,7 +395,7 @@ fn with_view(
     view.indices.set(Text::from_str(alloc, name)?, 1)?;
     view.settings
         .set(Text::from_str(alloc, key)?, Text::from_str(alloc, "v")?)?;
-    with_node(alloc, node)
+    put_node(made, node)
 }
 
 #[test]
@@ -386,19 +412,18 @@ fn views_have_names_of_their_kinds(rt: HostRuntime) -> Result<(), Fail> {
         ("all", &["a"], "a", "a+b", false),
     ];
     for (alias, words, name, key, is_good) in table {
-        let made = with_view(alloc, alias, words, name, key)?;
-        assert!(rt; is_good_form(&made) == is_good, "{alias} {name} {key}");
+        let found = judged(alloc, |made| put_view(alloc, made, alias, words, name, key))?;
+        assert!(rt; found == is_good, "{alias} {name} {key}");
     }
     Ok(())
 }
 
 // ---- the last state
 
-fn with_leader(alloc: Global, cluster: &str, master: &str) -> Result<Session, Fail> {
-    let mut made = good(alloc)?;
+fn put_leader(alloc: Global, made: &mut Session, cluster: &str, master: &str) -> Result<(), Fail> {
     made.last.cluster = Text::from_str(alloc, cluster)?;
     made.last.master = Text::from_str(alloc, master)?;
-    Ok(made)
+    Ok(())
 }
 
 #[test]
@@ -413,20 +438,19 @@ fn the_cluster_and_the_master_have_names(rt: HostRuntime) -> Result<(), Fail> {
         ("demo", "", false),
     ];
     for (cluster, master, is_good) in table {
-        let made = with_leader(alloc, cluster, master)?;
-        assert!(rt; is_good_form(&made) == is_good, "{cluster} {master}");
+        let found = judged(alloc, |made| put_leader(alloc, made, cluster, master))?;
+        assert!(rt; found == is_good, "{cluster} {master}");
     }
     Ok(())
 }
 
-fn with_member(alloc: Global, key: &str, name: &str) -> Result<Session, Fail> {
-    let mut made = good(alloc)?;
+fn put_member(alloc: Global, made: &mut Session, key: &str, name: &str) -> Result<(), Fail> {
     let node = NodeInfo {
         name: Text::from_str(alloc, name)?,
         eligible: false,
     };
     made.last.nodes.set(Text::from_str(alloc, key)?, node)?;
-    Ok(made)
+    Ok(())
 }
 
 #[test]
@@ -439,20 +463,19 @@ fn each_node_stands_under_its_name(rt: HostRuntime) -> Result<(), Fail> {
         ("n1", "n", false),
     ];
     for (key, name, is_good) in table {
-        let made = with_member(alloc, key, name)?;
-        assert!(rt; is_good_form(&made) == is_good, "{key} {name}");
+        let found = judged(alloc, |made| put_member(alloc, made, key, name))?;
+        assert!(rt; found == is_good, "{key} {name}");
     }
     Ok(())
 }
 
-fn with_index(alloc: Global, name: &str, alias: &str) -> Result<Session, Fail> {
-    let mut made = good(alloc)?;
+fn put_index(alloc: Global, made: &mut Session, name: &str, alias: &str) -> Result<(), Fail> {
     let metadata = index(alloc, 3, &[alias])?;
     made.last
         .metadata
         .indices
         .set(Text::from_str(alloc, name)?, metadata)?;
-    Ok(made)
+    Ok(())
 }
 
 #[test]
@@ -466,19 +489,18 @@ fn indices_and_aliases_have_names(rt: HostRuntime) -> Result<(), Fail> {
         ("c", "", false),
     ];
     for (name, alias, is_good) in table {
-        let made = with_index(alloc, name, alias)?;
-        assert!(rt; is_good_form(&made) == is_good, "{name} {alias}");
+        let found = judged(alloc, |made| put_index(alloc, made, name, alias))?;
+        assert!(rt; found == is_good, "{name} {alias}");
     }
     Ok(())
 }
 
-fn with_setting(alloc: Global, key: &str) -> Result<Session, Fail> {
-    let mut made = good(alloc)?;
+fn put_setting(alloc: Global, made: &mut Session, key: &str) -> Result<(), Fail> {
     made.last
         .metadata
         .settings
         .set(Text::from_str(alloc, key)?, Text::from_str(alloc, "V w")?)?;
-    Ok(made)
+    Ok(())
 }
 
 #[test]
@@ -491,8 +513,8 @@ fn settings_have_keys(rt: HostRuntime) -> Result<(), Fail> {
         ("a+b", false),
     ];
     for (key, is_good) in table {
-        let made = with_setting(alloc, key)?;
-        assert!(rt; is_good_form(&made) == is_good, "{key}");
+        let found = judged(alloc, |made| put_setting(alloc, made, key))?;
+        assert!(rt; found == is_good, "{key}");
     }
     Ok(())
 }
