@@ -465,91 +465,45 @@ fn a_look_at_nothing_finds_it_missing(rt: HostRuntime) -> Result<(), Fail> {
     Ok(())
 }
 
-// An index with these aliases.
-fn index_with(alloc: Global, aliases: &[&str]) -> Result<IndexMetadata, Fail> {
+// An index with these aliases, joined by commas.
+fn index_with(alloc: Global, aliases: &str) -> Result<IndexMetadata, Fail> {
     let mut made = index(alloc);
-    for alias in aliases {
+    for alias in aliases.split(',') {
         made.aliases.insert(text(alloc, alias)?)?;
     }
     Ok(made)
 }
 
-// Whether these are the names of the indices that have an alias, in this order.
-fn has_names(alloc: Global, indices: &Indices, alias: &str, wanted: &[&str]) -> Result<bool, Fail> {
+fn push_names(alloc: Global, out: &mut String, indices: &Indices, alias: &str) -> Result<(), Fail> {
     let alias = text(alloc, alias)?;
-    let mut names = Items::new(alloc);
-    for name in wanted {
-        names.push(text(alloc, name)?)?;
+    if indices.has_alias(&alias) {
+        out.push_str(" ")?;
     }
-    let found = indices.names_with(alloc, &alias)?;
-    Ok(found == names && indices.has_alias(&alias) == !wanted.is_empty())
+    for name in indices.names_with(alloc, &alias)?.as_slice() {
+        out.push_str(name.as_str())?;
+    }
+    Ok(())
+}
+
+// The names of the indices that have "x", those that have "y" and those that have "z", with a blank before each list
+// of which there is one.
+fn names_told(alloc: Global, indices: &Indices) -> Result<String, Fail> {
+    let mut out = String::new(alloc);
+    for alias in ["x", "y", "z"] {
+        out.push_str(alias)?;
+        push_names(alloc, &mut out, indices, alias)?;
+    }
+    Ok(out)
 }
 
 fn put_aliased(
     alloc: Global,
     indices: &mut Indices,
     name: &str,
-    aliases: &[&str],
+    aliases: &str,
 ) -> Result<(), Fail> {
     let made = index_with(alloc, aliases)?;
     Ok(indices.set(text(alloc, name)?, made)?)
-}
-
-fn take_out(alloc: Global, indices: &mut Indices, name: &str) -> Result<(), Fail> {
-    let name = text(alloc, name)?;
-    Ok(indices.remove(&name)?)
-}
-
-// Two indices that share the alias "x"; each has one more of its own.
-fn sharing(alloc: Global) -> Result<Indices, Fail> {
-    let mut indices = Indices::new(alloc);
-    put_aliased(alloc, &mut indices, "b", &["x", "z"])?;
-    put_aliased(alloc, &mut indices, "a", &["y", "x"])?;
-    Ok(indices)
-}
-
-// Whether the indices have these names for "x", "y" and "z".
-fn have_names(
-    alloc: Global,
-    indices: &Indices,
-    x: &[&str],
-    y: &[&str],
-    z: &[&str],
-) -> Result<bool, Fail> {
-    Ok(
-        has_names(alloc, indices, "x", x)?
-            && has_names(alloc, indices, "y", y)?
-            && has_names(alloc, indices, "z", z)?,
-    )
-}
-
-#[test]
-fn an_alias_is_found_until_its_last_index_loses_it(rt: HostRuntime) -> Result<(), Fail> {
-    let alloc = rt.alloc();
-    let mut indices = sharing(alloc)?;
-    assert!(rt; have_names(alloc, &indices, &["a", "b"], &["a"], &["b"])?);
-    // another index at the name, with other aliases
-    put_aliased(alloc, &mut indices, "b", &["y"])?;
-    assert!(rt; have_names(alloc, &indices, &["a"], &["a", "b"], &[])?);
-    // an index taken out, and one that isn't there
-    take_out(alloc, &mut indices, "a")?;
-    take_out(alloc, &mut indices, "c")?;
-    assert!(rt; have_names(alloc, &indices, &[], &["b"], &[])?);
-    assert!(rt; indices.len() == 1);
-    Ok(())
-}
-
-#[test]
-fn a_copy_of_indices_stays_as_they_were(rt: HostRuntime) -> Result<(), Fail> {
-    let alloc = rt.alloc();
-    let mut indices = sharing(alloc)?;
-    let kept = indices.copy()?;
-    let cloned = kept.clone()?;
-    take_out(alloc, &mut indices, "a")?;
-    assert!(rt; have_names(alloc, &kept, &["a", "b"], &["a"], &["b"])?);
-    assert!(rt; kept == cloned);
-    assert!(rt; kept != indices);
-    Ok(())
 }
 
 #[tactic(auto, using(crate::proofs::Tables::one_alias_more))]
@@ -592,40 +546,79 @@ fn close(alloc: Global, indices: &mut Indices, name: &Text) -> Result<(), OutOfM
     indices.set_keeping_aliases(name.copy()?, made)
 }
 
-fn add(alloc: Global, indices: &mut Indices, name: &str, alias: &str) -> Result<(), Fail> {
-    let name = text(alloc, name)?;
-    let alias = text(alloc, alias)?;
-    Ok(add_alias(alloc, indices, &name, &alias)?)
+// What is done to some indices, to which of them and with which aliases, and who has which alias then.
+const CHANGES: [(&str, &str, &str, &str); 11] = [
+    ("set", "b", "x,z", "x byz b"),
+    ("set", "a", "y,x", "x aby az b"),
+    ("close", "a", "", "x aby az b"),
+    // another index at the name, with other aliases
+    ("set", "b", "y", "x ay abz"),
+    ("add", "b", "z", "x ay abz b"),
+    // it has it already
+    ("add", "b", "z", "x ay abz b"),
+    ("take", "a", "y", "x ay bz b"),
+    ("take", "a", "x", "xy bz b"),
+    // an index taken out, and one that isn't there
+    ("remove", "b", "", "xyz"),
+    ("remove", "c", "", "xyz"),
+    ("set", "c", "x,y", "x cy cz"),
+];
+
+fn change_named(
+    alloc: Global,
+    indices: &mut Indices,
+    what: &str,
+    name: &Text,
+    alias: &Text,
+) -> Result<(), OutOfMemory> {
+    match what {
+        "add" => add_alias(alloc, indices, name, alias),
+        "take" => remove_alias(alloc, indices, name, alias),
+        "close" => close(alloc, indices, name),
+        _ => indices.remove(name),
+    }
 }
 
-fn take(alloc: Global, indices: &mut Indices, name: &str, alias: &str) -> Result<(), Fail> {
+fn change_by(
+    alloc: Global,
+    indices: &mut Indices,
+    what: &str,
+    name: &str,
+    aliases: &str,
+) -> Result<(), Fail> {
+    if what == "set" {
+        return put_aliased(alloc, indices, name, aliases);
+    }
     let name = text(alloc, name)?;
-    let alias = text(alloc, alias)?;
-    Ok(remove_alias(alloc, indices, &name, &alias)?)
+    let alias = text(alloc, aliases)?;
+    Ok(change_named(alloc, indices, what, &name, &alias)?)
 }
 
 #[test]
-fn an_alias_alone_is_added_and_taken_away(rt: HostRuntime) -> Result<(), Fail> {
+fn an_alias_is_found_until_its_last_index_loses_it(rt: HostRuntime) -> Result<(), Fail> {
     let alloc = rt.alloc();
-    let mut indices = sharing(alloc)?;
-    add(alloc, &mut indices, "b", "y")?;
-    // it has it already
-    add(alloc, &mut indices, "b", "y")?;
-    assert!(rt; have_names(alloc, &indices, &["a", "b"], &["a", "b"], &["b"])?);
-    take(alloc, &mut indices, "a", "y")?;
-    take(alloc, &mut indices, "b", "y")?;
-    take(alloc, &mut indices, "a", "x")?;
-    assert!(rt; have_names(alloc, &indices, &["b"], &[], &["b"])?);
+    let mut indices = Indices::new(alloc);
+    for (what, name, aliases, wanted) in CHANGES {
+        change_by(alloc, &mut indices, what, name, aliases)?;
+        let told = names_told(alloc, &indices)?;
+        assert_eq!(rt; told.as_str(), wanted, "{what} {name} {aliases}");
+    }
     Ok(())
 }
 
+// What is told of a copy that was made before an index was taken out, and whether it equals what is left.
+fn copied(alloc: Global) -> Result<(String, bool), Fail> {
+    let mut indices = Indices::new(alloc);
+    put_aliased(alloc, &mut indices, "a", "x,y")?;
+    let kept = indices.copy()?;
+    indices.remove(&text(alloc, "a")?)?;
+    Ok((names_told(alloc, &kept)?, kept == indices))
+}
+
 #[test]
-fn an_index_changes_while_its_aliases_stay(rt: HostRuntime) -> Result<(), Fail> {
-    let alloc = rt.alloc();
-    let mut indices = sharing(alloc)?;
-    let name = text(alloc, "a")?;
-    close(alloc, &mut indices, &name)?;
-    assert!(rt; have_names(alloc, &indices, &["a", "b"], &["a"], &["b"])?);
-    assert!(rt; indices != sharing(alloc)?);
+fn a_copy_of_indices_stays_as_they_were(rt: HostRuntime) -> Result<(), Fail> {
+    let (told, same) = copied(rt.alloc())?;
+    assert_eq!(rt; told.as_str(), "x ay az");
+    assert!(rt; !same);
     Ok(())
 }

@@ -162,13 +162,19 @@ task 1.10 at 20 closed 2.7
 state {"cluster":"demo","id":1,"master":"n0","metadata":{"created":0,"indices":{},"settings":{},"version":1},"nodes":{"n0":{"eligible":true}},"term":1,"version":1}
 "#;
 
+// The report of a session of these batches and replies.
+fn reported(alloc: Global, batches: Vec<Batch>, replies: Vec<Reply>) -> Result<Text, Fail> {
+    let made = session(alloc, batches, replies)?;
+    Ok(report_text(alloc, &made)?)
+}
+
 #[test]
 fn a_report_has_a_line_for_each_batch_each_task_and_the_state(rt: HostRuntime) -> Result<(), Fail> {
     let alloc = rt.alloc();
-    let empty = session(alloc, Vec::new(alloc), Vec::new(alloc))?;
-    assert_eq!(rt; report_text(alloc, &empty)?.as_str(), EMPTY);
-    let full = session(alloc, batches(alloc)?, replies(alloc)?)?;
-    assert_eq!(rt; report_text(alloc, &full)?.as_str(), FULL);
+    let empty = reported(alloc, Vec::new(alloc), Vec::new(alloc))?;
+    assert_eq!(rt; empty.as_str(), EMPTY);
+    let full = reported(alloc, batches(alloc)?, replies(alloc)?)?;
+    assert_eq!(rt; full.as_str(), FULL);
     Ok(())
 }
 
@@ -490,19 +496,29 @@ fn counted(alloc: Global, first: u64) -> Result<Session, Fail> {
     Ok(made)
 }
 
+fn summed(alloc: Global, made: Session) -> Result<Text, Fail> {
+    Ok(summary_text(alloc, &made)?)
+}
+
 #[test]
 fn a_summary_counts_tasks_indices_and_aliases_and_compares_the_nodes(
     rt: HostRuntime,
 ) -> Result<(), Fail> {
     let alloc = rt.alloc();
-    let empty = session(alloc, Vec::new(alloc), Vec::new(alloc))?;
+    let empty = summed(alloc, session(alloc, Vec::new(alloc), Vec::new(alloc))?)?;
     assert_eq!(rt;
-        summary_text(alloc, &empty)?.as_str(),
+        empty.as_str(),
         "tasks 0 ok 0 indices 0 aliases 0 nodes equal\n"
     );
-    let equal = "tasks 8 ok 1 indices 2 aliases 2 nodes equal\n";
-    assert_eq!(rt; summary_text(alloc, &counted(alloc, 1)?)?.as_str(), equal);
-    let differ = "tasks 8 ok 1 indices 2 aliases 2 nodes differ\n";
-    assert_eq!(rt; summary_text(alloc, &counted(alloc, 2)?)?.as_str(), differ);
+    let equal = summed(alloc, counted(alloc, 1)?)?;
+    assert_eq!(rt;
+        equal.as_str(),
+        "tasks 8 ok 1 indices 2 aliases 2 nodes equal\n"
+    );
+    let differ = summed(alloc, counted(alloc, 2)?)?;
+    assert_eq!(rt;
+        differ.as_str(),
+        "tasks 8 ok 1 indices 2 aliases 2 nodes differ\n"
+    );
     Ok(())
 }
