@@ -6,7 +6,7 @@ use Rattle.std.proofs.lemmas.List.{length-append, length-take}
 use Rattle.std.specs.Io.KnownBytes.{Appends, Consumes}
 use Rattle.edge_io.specs.Bytes.{AppendsPart, Takes}
 use Rattle.edge_io.specs.Causes.{Rose}
-use Rattle.executors.specs.declared.scripts.Script.{Script}
+use Rattle.scripts.specs.declared.whole_script.Script.{Script}
 use Rattle.script_form.specs.declared.refusals.ScriptRefusal.{ScriptRefusal}
 use Rattle.script_form.specs.Reading.{script_of}
 use Rattle.script_form.specs.Refusals.{refusal_text}

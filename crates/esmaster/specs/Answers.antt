@@ -4,7 +4,7 @@ use Rattle.std.specs.Prelude.{◌≡◌, ℕ, ◌≤◌, ◌⊎◌, Bool, true, 
 use Rattle.std.specs.Io.KnownBytes.{Appends}
 use Rattle.edge_io.specs.Bytes.{AppendsPart}
 use Rattle.edge_io.specs.Causes.{Rose}
-use Rattle.executors.specs.declared.scripts.Script.{Script}
+use Rattle.scripts.specs.declared.whole_script.Script.{Script}
 use Rattle.script_form.specs.declared.refusals.ScriptRefusal.{ScriptRefusal}
 use Rattle.script_form.specs.Reading.{script_of}
 use Rattle.script_form.specs.Refusals.{refusal_text}

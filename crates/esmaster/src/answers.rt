@@ -2,8 +2,10 @@ ghost use Rattle.std.specs.Prelude.{◌≡◌, IfOk};
 ghost use Rattle.script_form.specs.Reading.{script_of};
 ghost use Rattle.esmaster.specs.Answers.{answer_of, refusal_line};
 
-use master_run::{ScriptRefusal, SerialCore, read_script, report_text};
+use master_run::SerialCore;
 use plain_data::{OutOfMemory, Text};
+use script_form::{ScriptRefusal, read_script};
+use session_law::report_text;
 use std::alloc::Global;
 
 /// What a replay is to write.

@@ -3,20 +3,20 @@ use Rattle.std.specs.Prelude.{◌≡◌, ℕ, ◌+◌, ◌-◌, ◌^◌, ◌<◌
 use Rattle.std.proofs.Common.{sym, ◌∙◌, ap, subst, arith}
 use Rattle.std.specs.List.{AllByRecursion}
 use Rattle.plain_data.specs.declared.memory.OutOfMemory.{OutOfMemory}
-use Rattle.meta_state.specs.declared.states.ClusterState.{ClusterState}
+use Rattle.meta_state.specs.declared.cluster_state.ClusterState.{ClusterState}
 use Rattle.meta_state.specs.States.{IsRoomy}
-use Rattle.executors.specs.declared.batches.Ran.{Ran}
+use Rattle.executors.specs.declared.folds.Ran.{Ran}
 use Rattle.executors.specs.declared.contexts.Mark.{Mark}
 use Rattle.executors.specs.declared.contexts.TaskContext.{TaskContext}
 use Rattle.executors.specs.declared.contexts.Verdict.{Verdict}
 use Rattle.executors.specs.declared.contexts.Verdict.TheVariants.{Success, Refused}
-use Rattle.executors.specs.declared.executing.Executed.{Executed}
-use Rattle.executors.specs.declared.executing.Executed.TheVariants.{Made, Failed}
+use Rattle.executors.specs.declared.executions.Executed.{Executed}
+use Rattle.executors.specs.declared.executions.Executed.TheVariants.{Made, Failed}
 use Rattle.executors.specs.declared.refusals.TaskRefusal.{TaskRefusal}
 use Rattle.executors.specs.Contexts.{marked}
 use Rattle.executors.specs.Executions.{folded, ran_none, ran_more, made_of, failed_or, failed_by, unless_refused}
 use Rattle.executors.specs.Attempts.{attempted, attempted_by, CanGoOn}
-use Rattle.executors.specs.Outcomes.{task_outcome}
+use Rattle.executors.specs.TaskRuns.{task_outcome}
 use Rattle.executors.proofs.Counts.{IsCountedResult, task_counted}
 use Rattle.executors.proofs.Fold.{roomy_counted, low_rises}
 

@@ -10,16 +10,16 @@ use Rattle.std.specs.declared.cmp.Ordering.{Ordering}
 use Rattle.std.specs.declared.cmp.Ordering.TheVariants.{Less, Equal, Greater}
 use Rattle.std.specs.Cmp.Lexicographic.{slice_cmp}
 use Rattle.plain_data.specs.Pairs.{lookup, with}
-use Rattle.meta_state.specs.declared.indices.IndexMetadata.{IndexMetadata}
-use Rattle.meta_state.specs.declared.states.ClusterState.{ClusterState}
+use Rattle.meta_state.specs.declared.index_metadata.IndexMetadata.{IndexMetadata}
+use Rattle.meta_state.specs.declared.cluster_state.ClusterState.{ClusterState}
 use Rattle.meta_state.specs.Aliases.{is_aliased}
-use Rattle.executors.specs.declared.batches.Ran.{Ran}
+use Rattle.executors.specs.declared.folds.Ran.{Ran}
 use Rattle.executors.specs.declared.contexts.Mark.{Mark}
 use Rattle.executors.specs.declared.contexts.TaskContext.{TaskContext}
 use Rattle.executors.specs.declared.contexts.Verdict.{Verdict}
 use Rattle.executors.specs.declared.contexts.Verdict.TheVariants.{Success, Refused}
-use Rattle.executors.specs.declared.executing.Executed.{Executed}
-use Rattle.executors.specs.declared.executing.Executed.TheVariants.{Made, Failed}
+use Rattle.executors.specs.declared.executions.Executed.{Executed}
+use Rattle.executors.specs.declared.executions.Executed.TheVariants.{Made, Failed}
 use Rattle.executors.specs.declared.kinds.Kind.{Kind}
 use Rattle.executors.specs.declared.refusals.TaskRefusal.{TaskRefusal}
 use Rattle.executors.specs.declared.tasks.Task.{Task}
@@ -30,7 +30,7 @@ use Rattle.executors.specs.Executions.{executed, settled, unless_refused, failed
 use Rattle.executors.specs.IndexTasks.{create_refusal, created_in, new_index, deleted_in, missing_refusal, index_setting_refusal, replicas_at, with_replicas, opened_at, with_opened, with_index}
 use Rattle.executors.specs.Kinds.{is_atomic}
 use Rattle.executors.specs.NodeTasks.{join_refusal, joined_in, leave_refusal, left_in, reelected_in}
-use Rattle.executors.specs.Outcomes.{task_outcome, alias_outcome, outcome}
+use Rattle.executors.specs.TaskRuns.{task_outcome, alias_outcome, outcome}
 use Rattle.executors.specs.SettingTasks.{setting_refusal, set_in}
 use Rattle.executors.proofs.Rising.{FoundAll, found_in}
 

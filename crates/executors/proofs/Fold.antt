@@ -3,10 +3,10 @@ use Rattle.std.specs.Prelude.{◌≡◌, ℕ, ◌+◌, ◌-◌, ◌^◌, ◌<◌
 use Rattle.std.proofs.Common.{sym, ◌∙◌, ap, subst, arith}
 use Rattle.std.specs.List.{AllByRecursion}
 use Rattle.plain_data.specs.declared.memory.OutOfMemory.{OutOfMemory}
-use Rattle.meta_state.specs.declared.indices.IndexMetadata.{IndexMetadata}
-use Rattle.meta_state.specs.declared.states.ClusterState.{ClusterState}
+use Rattle.meta_state.specs.declared.index_metadata.IndexMetadata.{IndexMetadata}
+use Rattle.meta_state.specs.declared.cluster_state.ClusterState.{ClusterState}
 use Rattle.meta_state.specs.States.{IsRoomy, IsRoomyIndex, AreRoomy}
-use Rattle.executors.specs.declared.batches.Ran.{Ran}
+use Rattle.executors.specs.declared.folds.Ran.{Ran}
 use Rattle.executors.specs.declared.contexts.TaskContext.{TaskContext}
 use Rattle.executors.specs.Executions.{folded, ran_none, ran_more, CanRise, CanIndexRise}
 use Rattle.executors.proofs.Counts.{IsCountedState, IsCountedIndex, AreCounted, task_counted}

@@ -3,5 +3,4 @@ pub mod Counts
 pub mod Fold
 pub mod Numbering
 pub mod Rising
-pub mod Takes
 pub mod Versions

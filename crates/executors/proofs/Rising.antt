@@ -7,7 +7,7 @@ use Rattle.std.specs.Map as entries
 use Rattle.std.specs.Ordering.{nat_cmp}
 use Rattle.std.specs.Cmp.Lexicographic.{slice_cmp}
 use Rattle.plain_data.specs.Pairs.{lookup}
-use Rattle.meta_state.specs.declared.indices.IndexMetadata.{IndexMetadata}
+use Rattle.meta_state.specs.declared.index_metadata.IndexMetadata.{IndexMetadata}
 use Rattle.executors.specs.Executions.{CanIndexRise}
 
 -- a fact of what was found, if anything was

@@ -4,15 +4,15 @@ use Rattle.std.proofs.Common.{◌∙◌, sym, subst}
 use Rattle.std.specs.Bool.{beq}
 use Rattle.plain_data.specs.Pairs.{lookup}
 use Rattle.plain_data.specs.declared.memory.OutOfMemory.{OutOfMemory}
-use Rattle.meta_state.specs.declared.indices.IndexMetadata.{IndexMetadata}
-use Rattle.meta_state.specs.declared.states.ClusterState.{ClusterState}
+use Rattle.meta_state.specs.declared.index_metadata.IndexMetadata.{IndexMetadata}
+use Rattle.meta_state.specs.declared.cluster_state.ClusterState.{ClusterState}
 use Rattle.meta_state.specs.Aliases.{is_aliased}
-use Rattle.executors.specs.declared.batches.Ran.{Ran}
+use Rattle.executors.specs.declared.folds.Ran.{Ran}
 use Rattle.executors.specs.declared.contexts.Mark.{Mark}
 use Rattle.executors.specs.declared.contexts.TaskContext.{TaskContext}
 use Rattle.executors.specs.declared.contexts.Verdict.{Verdict}
 use Rattle.executors.specs.declared.contexts.Verdict.TheVariants.{Success, Refused}
-use Rattle.executors.specs.declared.executing.Executed.{Executed}
+use Rattle.executors.specs.declared.executions.Executed.{Executed}
 use Rattle.executors.specs.declared.refusals.TaskRefusal.{TaskRefusal}
 use Rattle.executors.specs.declared.tasks.Task.{Task}
 use Rattle.executors.specs.declared.tasks.Task.TheVariants as task
@@ -20,7 +20,7 @@ use Rattle.executors.specs.AliasTasks.{add_refusal, added_at, remove_refusal, re
 use Rattle.executors.specs.Executions.{unless_refused, failed_or, failed_by, made_of, folded, ran_none, ran_more, HasVersionsOf, KeepsVersions}
 use Rattle.executors.specs.IndexTasks.{create_refusal, created_in, deleted_in, missing_refusal, index_setting_refusal, replicas_at, with_replicas, opened_at, with_opened, with_index}
 use Rattle.executors.specs.NodeTasks.{join_refusal, joined_in, leave_refusal, left_in}
-use Rattle.executors.specs.Outcomes.{task_outcome, alias_outcome, outcome}
+use Rattle.executors.specs.TaskRuns.{task_outcome, alias_outcome, outcome}
 use Rattle.executors.specs.SettingTasks.{setting_refusal, set_in}
 
 same_versions : (state changed : ClusterState) → changed.id ≡ state.id → changed.version ≡ state.version → changed.metadata.version ≡ state.metadata.version → HasVersionsOf state changed

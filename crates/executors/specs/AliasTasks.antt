@@ -3,8 +3,8 @@
 -- this project's own.
 use Rattle.std.specs.Prelude.{ℕ, ◌+◌, Bool, false, not, List, Some, None, Option, is_some, if◌then◌else◌}
 use Rattle.plain_data.specs.Pairs.{lookup, with, without}
-use Rattle.meta_state.specs.declared.indices.IndexMetadata.{IndexMetadata}
-use Rattle.meta_state.specs.declared.states.ClusterState.{ClusterState}
+use Rattle.meta_state.specs.declared.index_metadata.IndexMetadata.{IndexMetadata}
+use Rattle.meta_state.specs.declared.cluster_state.ClusterState.{ClusterState}
 use Rattle.meta_state.specs.Aliases.{is_aliased}
 use Rattle.meta_state.specs.Names.{name_fault}
 use Rattle.executors.specs.declared.refusals.TaskRefusal.{TaskRefusal}

@@ -4,11 +4,11 @@ use Rattle.std.specs.Prelude.{ℕ}
 use Rattle.executors.specs.declared.contexts.TaskContext.{TaskContext}
 use Rattle.executors.specs.declared.contexts.Verdict.{Verdict}
 use Rattle.executors.specs.declared.contexts.Verdict.TheVariants.{Success, Refused}
-use Rattle.executors.specs.declared.executing.Executed.{Executed}
-use Rattle.executors.specs.declared.executing.Executed.TheVariants.{Made, Failed}
-use Rattle.executors.specs.declared.batches.Ran.{Ran}
+use Rattle.executors.specs.declared.executions.Executed.{Executed}
+use Rattle.executors.specs.declared.executions.Executed.TheVariants.{Made, Failed}
+use Rattle.executors.specs.declared.folds.Ran.{Ran}
 use Rattle.executors.specs.Executions.{made_of, ran_more, CanRise}
-use Rattle.executors.specs.Outcomes.{task_outcome}
+use Rattle.executors.specs.TaskRuns.{task_outcome}
 
 -- after one task more, by its verdict
 abbrev pub attempted_by : Verdict → ℕ → Ran → Executed

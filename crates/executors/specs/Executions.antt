@@ -1,20 +1,20 @@
 -- What an executor makes of a batch: a fold over its tasks, each on the state that those before it left.
 use Rattle.std.specs.Prelude.{◌≡◌, ℕ, ◌-◌, ◌^◌, ◌<◌, List, [], ◌∷◌, ◌++◌, map, if◌then◌else◌}
 use Rattle.std.specs.List.{AllByRecursion}
-use Rattle.meta_state.specs.declared.indices.IndexMetadata.{IndexMetadata}
-use Rattle.meta_state.specs.declared.states.ClusterState.{ClusterState}
+use Rattle.meta_state.specs.declared.index_metadata.IndexMetadata.{IndexMetadata}
+use Rattle.meta_state.specs.declared.cluster_state.ClusterState.{ClusterState}
 use Rattle.executors.specs.declared.contexts.TaskContext.{TaskContext}
-use Rattle.executors.specs.declared.executing.Executed.{Executed}
-use Rattle.executors.specs.declared.executing.Executed.TheVariants.{Made, Failed}
+use Rattle.executors.specs.declared.executions.Executed.{Executed}
+use Rattle.executors.specs.declared.executions.Executed.TheVariants.{Made, Failed}
 use Rattle.executors.specs.declared.contexts.Mark.{Mark}
 use Rattle.executors.specs.declared.contexts.Verdict.{Verdict}
 use Rattle.executors.specs.declared.contexts.Verdict.TheVariants.{Success, Refused}
 use Rattle.executors.specs.declared.kinds.Kind.{Kind}
-use Rattle.executors.specs.declared.batches.Ran.{Ran}
+use Rattle.executors.specs.declared.folds.Ran.{Ran}
 use Rattle.executors.specs.declared.tasks.Task.{Task}
 use Rattle.executors.specs.Contexts.{marked}
 use Rattle.executors.specs.Kinds.{is_atomic}
-use Rattle.executors.specs.Outcomes.{task_outcome}
+use Rattle.executors.specs.TaskRuns.{task_outcome}
 
 abbrev pub tasks_of : List TaskContext → List Task
 tasks_of contexts = map (λ c. c.task) contexts

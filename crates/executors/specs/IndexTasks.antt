@@ -4,8 +4,8 @@
 use Rattle.std.specs.Prelude.{ℕ, ◌+◌, ◌==◌, Bool, true, not, ◌||◌, List, [], Some, None, Option, is_some, nat_lt, bytes_eq, codes, if◌then◌else◌}
 use Rattle.std.specs.Bool.{beq}
 use Rattle.plain_data.specs.Pairs.{lookup, with, without}
-use Rattle.meta_state.specs.declared.indices.IndexMetadata.{IndexMetadata}
-use Rattle.meta_state.specs.declared.states.ClusterState.{ClusterState}
+use Rattle.meta_state.specs.declared.index_metadata.IndexMetadata.{IndexMetadata}
+use Rattle.meta_state.specs.declared.cluster_state.ClusterState.{ClusterState}
 use Rattle.meta_state.specs.Aliases.{has_alias}
 use Rattle.meta_state.specs.Names.{name_fault}
 use Rattle.executors.specs.declared.refusals.TaskRefusal.{TaskRefusal}
@@ -15,12 +15,12 @@ abbrev pub has_index : ClusterState → List ℕ → Bool
 has_index state index = is_some (lookup index state.metadata.indices)
 
 -- a state with other indices
-abbrev pub with_indices : ClusterState → List (List ℕ × IndexMetadata) → ClusterState
-with_indices state indices = record state { metadata = record state.metadata { indices = indices } }
+abbrev pub state_with_indices : ClusterState → List (List ℕ × IndexMetadata) → ClusterState
+state_with_indices state indices = record state { metadata = record state.metadata { indices = indices } }
 
 -- a state with an index in place of the one that has its name
 abbrev pub with_index : ClusterState → List ℕ → IndexMetadata → ClusterState
-with_index state name index = with_indices state (with name index state.metadata.indices)
+with_index state name index = state_with_indices state (with name index state.metadata.indices)
 
 -- ---- creation
 
@@ -66,7 +66,7 @@ missing_refusal state index = if has_index state index then None else Some NotFo
 
 -- the state without an index, whose aliases go with it
 abbrev pub deleted_in : ClusterState → List ℕ → ClusterState
-deleted_in state index = with_indices state (without index state.metadata.indices)
+deleted_in state index = state_with_indices state (without index state.metadata.indices)
 
 -- ---- settings of an index
 

@@ -5,7 +5,6 @@ pub mod Executions
 pub mod IndexTasks
 pub mod Kinds
 pub mod NodeTasks
-pub mod Outcomes
-pub mod Scripts
 pub mod SettingTasks
+pub mod TaskRuns
 pub mod Words

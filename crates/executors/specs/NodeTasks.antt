@@ -2,8 +2,8 @@
 -- of the master anew. That a known node isn't joined and an unknown one doesn't leave is this project's own.
 use Rattle.std.specs.Prelude.{ℕ, ◌+◌, Bool, not, List, Some, None, Option, is_some, bytes_eq, if◌then◌else◌}
 use Rattle.plain_data.specs.Pairs.{lookup, with, without}
-use Rattle.meta_state.specs.declared.nodes.NodeInfo.{NodeInfo}
-use Rattle.meta_state.specs.declared.states.ClusterState.{ClusterState}
+use Rattle.meta_state.specs.declared.node_info.NodeInfo.{NodeInfo}
+use Rattle.meta_state.specs.declared.cluster_state.ClusterState.{ClusterState}
 use Rattle.executors.specs.declared.refusals.TaskRefusal.{TaskRefusal}
 use Rattle.executors.specs.declared.refusals.TaskRefusal.TheVariants.{NodeKnown, NodeUnknown, MasterMayNotLeave}
 

@@ -4,7 +4,7 @@ ghost use Rattle.meta_state.specs.Tables.{AgreeBut, aliases_at};
 ghost use Rattle.executors.specs.AliasTasks.{add_refusal, added_in, is_aliased_at, remove_refusal, removed_in, with_alias, without_alias};
 ghost use Rattle.executors.specs.Executions.{CanRise, CanIndexRise};
 ghost use Rattle.executors.specs.IndexTasks.{with_index};
-ghost use Rattle.executors.specs.Outcomes.{alias_outcome, outcome};
+ghost use Rattle.executors.specs.TaskRuns.{alias_outcome, outcome};
 
 use crate::contexts::Verdict;
 use crate::refusals::TaskRefusal;

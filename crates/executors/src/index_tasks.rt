@@ -2,7 +2,7 @@ ghost use Rattle.std.specs.Prelude.{◌≡◌, IfOk, OnOk};
 ghost use Rattle.meta_state.specs.Tables.{aliases_at};
 ghost use Rattle.executors.specs.Executions.{CanRise, CanIndexRise};
 ghost use Rattle.executors.specs.IndexTasks.{create_refusal, created_in, deleted_in, has_index, index_setting_refusal, is_replicas_key, is_shards_key, missing_refusal, opened_in, replicas_in, with_index, with_opened, with_replicas};
-ghost use Rattle.executors.specs.Outcomes.{outcome};
+ghost use Rattle.executors.specs.TaskRuns.{outcome};
 
 use crate::contexts::Verdict;
 use crate::refusals::TaskRefusal;

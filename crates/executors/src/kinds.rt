@@ -2,9 +2,9 @@ ghost use Rattle.std.specs.Prelude.{◌≡◌, Bool};
 ghost use Rattle.executors.specs.Executions.{executed};
 ghost use Rattle.executors.specs.Kinds.{accepts, is_atomic, needs_master};
 
-use crate::batches::{run_atomic, run_batch};
 use crate::contexts::TaskContext;
-use crate::executing::{Executed, Executor};
+use crate::executions::{Executed, Executor};
+use crate::folds::{run_all, run_atomic};
 use crate::tasks::Task;
 use meta_state::ClusterState;
 use plain_data::OutOfMemory;
@@ -78,7 +78,7 @@ impl Executor for Kind {
         if self.fails_as_a_whole() {
             return run_atomic(alloc, initial, contexts);
         }
-        let ran = run_batch(alloc, initial, contexts)?;
+        let ran = run_all(alloc, initial, contexts)?;
         Ok(ran.made())
     }
 }

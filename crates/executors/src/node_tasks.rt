@@ -1,6 +1,6 @@
 ghost use Rattle.std.specs.Prelude.{◌≡◌, IfOk, OnOk};
 ghost use Rattle.executors.specs.NodeTasks.{join_refusal, joined_in, leave_refusal, left_in};
-ghost use Rattle.executors.specs.Outcomes.{outcome};
+ghost use Rattle.executors.specs.TaskRuns.{outcome};
 
 use crate::contexts::Verdict;
 use crate::refusals::TaskRefusal;

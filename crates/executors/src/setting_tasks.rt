@@ -1,6 +1,6 @@
 ghost use Rattle.std.specs.Prelude.{◌≡◌, IfOk, OnOk};
 ghost use Rattle.std.specs.List.{list_all};
-ghost use Rattle.executors.specs.Outcomes.{outcome};
+ghost use Rattle.executors.specs.TaskRuns.{outcome};
 ghost use Rattle.executors.specs.SettingTasks.{begins_as_key, is_key, is_key_byte, is_key_start, is_too_long, set_in, setting_refusal};
 
 use crate::contexts::Verdict;

@@ -4,13 +4,6 @@ use meta_state::NodeInfo;
 use plain_data::{OutOfMemory, Text};
 use std::alloc::Global;
 
-/// Which task it is: the client and the step that submitted it.
-#[derive(Clone, Copy, Debug, PartialEq, Eq)]
-pub struct TaskId {
-    pub client: u32,
-    pub step: u32,
-}
-
 /// A change of the cluster state that a client asks for.
 #[derive(Debug, Drop)]
 pub enum Task {

@@ -8,16 +8,16 @@ use Rattle.std.proofs.lemmas.Bool.{leb-true}
 use Rattle.std.proofs.lemmas.Map.Steps.{length-le_from_distinct_below}
 use Rattle.std.proofs.lemmas.Option.{slice_get_within}
 use Rattle.std.proofs.lemmas.List.{length-map}
-use Rattle.meta_state.specs.declared.indices.IndexMetadata.{IndexMetadata}
+use Rattle.meta_state.specs.declared.index_metadata.IndexMetadata.{IndexMetadata}
 use Rattle.meta_state.specs.States.{AreRoomy}
-use Rattle.executors.specs.declared.scripts.Script.{Script}
-use Rattle.executors.specs.declared.steps.Step.{Step}
-use Rattle.executors.specs.Scripts.{IsScript, is_client}
+use Rattle.scripts.specs.declared.whole_script.Script.{Script}
+use Rattle.scripts.specs.declared.steps.Step.{Step}
+use Rattle.scripts.specs.Scripts.{IsScript, is_client}
 use Rattle.executors.proofs.Counts.{AreCounted}
 use Rattle.session_law.specs.declared.batches.Batch.{Batch}
 use Rattle.session_law.specs.declared.worlds.NodeWorld.{NodeWorld}
 use Rattle.session_law.specs.declared.worlds.World.{World}
-use Rattle.session_law.specs.Histories.{AreApart, IsApart, IsKept, IsOwn, Placed, is_own_step, placed_of, step_at, world_after}
+use Rattle.session_law.specs.Histories.{AreApart, IsApart, IsKept, IsOwn, Queued, is_own_step, queued_of, step_at, world_after}
 use Rattle.session_law.proofs.Counts.{IsCounted, placed_count, world_counted}
 use Rattle.master_run.specs.Rooms.{CanSend, HasRoom}
 use Rattle.master_run.proofs.Keeping.{both_first, both_second, no_some, some_same}
@@ -52,7 +52,7 @@ stands_client : (script : Script) (name : List ℕ) (client number : ℕ) (found
 stands_client script name client number None e h = absurd (true≢false (sym h))
 stands_client script name client number (Some steps) e h = stands_step script name client number steps e (slice_get steps number) refl h
 
-pub stands : (script : Script) (placed : Placed) → IsOwn script placed → Stands script placed.queue placed.entry.client placed.entry.step
+pub stands : (script : Script) (placed : Queued) → IsOwn script placed → Stands script placed.queue placed.entry.client placed.entry.step
 stands script placed own = stands_client script placed.queue placed.entry.client placed.entry.step (slice_get script.clients placed.entry.client) refl own
 
 -- ---- where a step of a script stands
@@ -75,11 +75,11 @@ steps_few script client steps valid e = leb-true (length steps) 4096 (both_first
 
 -- ---- entries as numbers below 32 times 4,096
 
-record IsWithin (placed : Placed) : Type 0 where
+record IsWithin (placed : Queued) : Type 0 where
   client : placed.entry.client < 32
   step : placed.entry.step < 4096
 
-within : (script : Script) (placed : Placed) → IsScript script → IsOwn script placed → IsWithin placed
+within : (script : Script) (placed : Queued) → IsScript script → IsOwn script placed → IsWithin placed
 within script placed valid own =
     let at = stands script placed own in
     let few = steps_few script placed.entry.client at.steps valid at.of_client in
@@ -88,11 +88,11 @@ within script placed valid own =
     let s = slice_get_within at.steps placed.entry.step at.step at.of_steps in
     record { client = omega arith; step = omega arith }
 
-all_within : (script : Script) (all : List Placed) → IsScript script → AllByRecursion (IsOwn script) all → AllByRecursion IsWithin all
+all_within : (script : Script) (all : List Queued) → IsScript script → AllByRecursion (IsOwn script) all → AllByRecursion IsWithin all
 all_within script [] valid own = tt
 all_within script (placed ∷ all) valid own = (within script placed valid own.0, all_within script all valid own.1)
 
-code_of : Placed → ℕ
+code_of : Queued → ℕ
 code_of placed = placed.entry.client * 4096 + placed.entry.step
 
 numbers_apart : (c d s t : ℕ) → s < 4096 → t < 4096 → ((c == d) && (s == t)) ≡ false → ((c * 4096 + s) == (d * 4096 + t)) ≡ false
@@ -103,14 +103,14 @@ numbers_apart c d s t hs ht other = false_from _ (λ h.
     let same : ((c == d) && (s == t)) ≡ true = λ i. (unsigned_Decides c d).1 same_client i && (unsigned_Decides s t).1 same_step i in
     true≢false (sym same ∙ other))
 
-codes_apart : (placed : Placed) (more : List Placed) → IsWithin placed → AllByRecursion IsWithin more → AllByRecursion (IsApart placed) more
+codes_apart : (placed : Queued) (more : List Queued) → IsWithin placed → AllByRecursion IsWithin more → AllByRecursion (IsApart placed) more
     → AllByRecursion (λ y. (code_of placed == y) ≡ false) (map code_of more)
 unfolding code_of
 codes_apart placed [] w ws apart = tt
 codes_apart placed (next ∷ more) w ws apart =
     (numbers_apart placed.entry.client next.entry.client placed.entry.step next.entry.step w.step ws.0.step apart.0.other, codes_apart placed more w ws.1 apart.1)
 
-codes_distinct : (all : List Placed) → AllByRecursion IsWithin all → AreApart all → IsDistinct ◌==◌ (map code_of all)
+codes_distinct : (all : List Queued) → AllByRecursion IsWithin all → AreApart all → IsDistinct ◌==◌ (map code_of all)
 unfolding IsDistinct
 codes_distinct [] ws apart = tt
 codes_distinct (placed ∷ all) ws apart = (codes_apart placed all ws.0 ws.1 apart.0, codes_distinct all ws.1 apart.1)
@@ -119,7 +119,7 @@ pub or_cases : (a b : Bool) (P : Type 0) → (a || b) ≡ true → (a ≡ true �
 or_cases true b P h f g = f refl
 or_cases false b P h f g = g h
 
-codes_below : (all : List Placed) → AllByRecursion IsWithin all → (q : ℕ) → list_any (λ y. q == y) (map code_of all) ≡ true → q < 131072
+codes_below : (all : List Queued) → AllByRecursion IsWithin all → (q : ℕ) → list_any (λ y. q == y) (map code_of all) ≡ true → q < 131072
 unfolding code_of
 codes_below [] ws q h = absurd (true≢false (sym h))
 codes_below (placed ∷ all) ws q h =
@@ -127,16 +127,16 @@ codes_below (placed ∷ all) ws q h =
     (λ e. let same = (unsigned_Decides q (placed.entry.client * 4096 + placed.entry.step)).0 e in let c = ws.0.client in let s = ws.0.step in omega arith)
     (codes_below all ws.1 q)
 
-pub entries_few : (script : Script) (batches : List Batch) (end : World) → IsScript script → IsKept script batches end → length (placed_of batches) ≤ 131072
+pub entries_few : (script : Script) (batches : List Batch) (end : World) → IsScript script → IsKept script batches end → length (queued_of batches) ≤ 131072
 entries_few script batches end valid kept =
-    let ws = all_within script (placed_of batches) valid kept.serial.own in
-    let few = length-le_from_distinct_below (map code_of (placed_of batches)) 131072 (codes_distinct (placed_of batches) ws kept.serial.apart) (codes_below (placed_of batches) ws) in
-    subst (λ (n : ℕ). n ≤ 131072) (length-map (placed_of batches) code_of) few
+    let ws = all_within script (queued_of batches) valid kept.serial.own in
+    let few = length-le_from_distinct_below (map code_of (queued_of batches)) 131072 (codes_distinct (queued_of batches) ws kept.serial.apart) (codes_below (queued_of batches) ws) in
+    subst (λ (n : ℕ). n ≤ 131072) (length-map (queued_of batches) code_of) few
 
-filled_few : (batches : List Batch) → AllByRecursion (λ b. 0 < length b.entries) batches → length batches ≤ length (placed_of batches)
+filled_few : (batches : List Batch) → AllByRecursion (λ b. 0 < length b.entries) batches → length batches ≤ length (queued_of batches)
 filled_few [] filled = omega arith
 filled_few (batch ∷ batches) filled =
-    let count = placed_count batch (placed_of batches) in let rest = filled_few batches filled.1 in let some = filled.0 in omega arith
+    let count = placed_count batch (queued_of batches) in let rest = filled_few batches filled.1 in let some = filled.0 in omega arith
 
 -- ---- room in the world
 
@@ -166,7 +166,7 @@ pub kept_has_room : (script : Script) (batches : List Batch) (end : World) → I
 kept_has_room script batches end valid kept =
     let few = entries_few script batches end valid kept in
     let fewer = filled_few batches kept.serial.filled in
-    subst HasRoom (sym kept.world) (room_of (length (placed_of batches)) (length batches) (world_after script batches) few (omega arith) (world_counted script batches))
+    subst HasRoom (sym kept.world) (room_of (length (queued_of batches)) (length batches) (world_after script batches) few (omega arith) (world_counted script batches))
 
 pub batches_few : (script : Script) (batches : List Batch) (end : World) → IsScript script → IsKept script batches end → length batches < 2 ^ 32
 batches_few script batches end valid kept =

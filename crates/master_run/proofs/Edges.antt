@@ -1,7 +1,7 @@
 -- Lists that are at their end: a position that isn't there is 0, and where no end is left nobody is told.
 use Rattle.std.specs.Prelude.{◌≡◌, ℕ, zero, suc, List, [], ◌∷◌, length, Some, None, slice_get, slice_index_or, refl}
 use Rattle.std.proofs.Common.{sym, arith}
-use Rattle.executors.specs.declared.ends.TaskEnd.{TaskEnd}
+use Rattle.session_law.specs.declared.task_ends.TaskEnd.{TaskEnd}
 use Rattle.master_run.specs.declared.waitings.Waiting.{Waiting}
 use Rattle.master_run.specs.Tellings.{Tellings, told_all}
 use Rattle.master_run.proofs.Keeping.{no_some, some_same}

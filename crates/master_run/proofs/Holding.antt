@@ -10,8 +10,8 @@ use Rattle.std.specs.Option.{option_map}
 use Rattle.std.specs.Ordering.{is_eq, match_ordering, nat_cmp, ordering_then}
 use Rattle.std.specs.declared.cmp.Ordering.{Ordering}
 use Rattle.std.specs.declared.cmp.Ordering.TheVariants.{Less, Equal, Greater}
-use Rattle.executors.specs.declared.ends.TaskEnd.{TaskEnd}
-use Rattle.executors.specs.declared.scripts.Script.{Script}
+use Rattle.session_law.specs.declared.task_ends.TaskEnd.{TaskEnd}
+use Rattle.scripts.specs.declared.whole_script.Script.{Script}
 use Rattle.session_law.specs.Histories.{step_at}
 use Rattle.master_run.specs.declared.tellings.Telling.{Telling}
 use Rattle.master_run.specs.declared.waitings.Waiting.{Waiting}

@@ -5,30 +5,30 @@ use Rattle.std.proofs.lemmas.Grind.{flat_map-append}
 use Rattle.std.proofs.Math.Bool.{true≢false}
 use Rattle.std.specs.List.{AllByRecursion, list_any}
 use Rattle.std.specs.Cmp.Lexicographic.{bytes_decides}
-use Rattle.meta_state.specs.declared.states.ClusterState.{ClusterState}
+use Rattle.meta_state.specs.declared.cluster_state.ClusterState.{ClusterState}
 use Rattle.meta_state.specs.declared.versions.Next.{Next}
 use Rattle.meta_state.specs.declared.versions.Next.TheVariants.{Same, Changed}
 use Rattle.meta_state.specs.Versions.{next_of}
 use Rattle.executors.specs.declared.contexts.Mark.{Mark}
-use Rattle.executors.specs.declared.executing.Executed.{Executed}
-use Rattle.executors.specs.declared.executing.Executed.TheVariants.{Made, Failed}
+use Rattle.executors.specs.declared.executions.Executed.{Executed}
+use Rattle.executors.specs.declared.executions.Executed.TheVariants.{Made, Failed}
 use Rattle.executors.specs.declared.kinds.Kind.{Kind}
-use Rattle.executors.specs.declared.queues.QueueSpec.{QueueSpec}
-use Rattle.executors.specs.declared.scripts.Script.{Script}
-use Rattle.executors.specs.declared.scripts.ScriptNode.{ScriptNode}
+use Rattle.scripts.specs.declared.queues.QueueSpec.{QueueSpec}
+use Rattle.scripts.specs.declared.whole_script.Script.{Script}
+use Rattle.scripts.specs.declared.whole_script.ScriptNode.{ScriptNode}
 use Rattle.executors.specs.declared.tasks.Task.{Task}
 use Rattle.executors.specs.Contexts.{numbered}
 use Rattle.executors.specs.Executions.{executed}
 use Rattle.executors.specs.Kinds.{needs_master}
-use Rattle.executors.specs.Scripts.{IsScript, are_distinct}
+use Rattle.scripts.specs.Scripts.{IsScript, are_distinct}
 use Rattle.session_law.specs.declared.batches.Batch.{Batch}
 use Rattle.session_law.specs.declared.batches.Entry.{Entry}
 use Rattle.session_law.specs.declared.worlds.Reach.{Reach}
 use Rattle.session_law.specs.declared.worlds.Stepped.{Stepped}
 use Rattle.session_law.specs.declared.worlds.World.{World}
-use Rattle.session_law.specs.Histories.{AreApart, AreResults, AreSeen, IsApart, IsOwn, Placed, after, commit_of, kind_named, placed_in, placed_of, stepped, tasks_at, world_after}
+use Rattle.session_law.specs.Histories.{AreApart, AreResults, AreSeen, IsApart, IsOwn, Queued, after, commit_of, kind_named, queued_in, queued_of, stepped, tasks_at, world_after}
 use Rattle.session_law.specs.Publications.{cut_by, does_commit, reach_all, reach_none}
-use Rattle.session_law.specs.Steps.{batch_step, commit_step, drop_step, executed_step, next_step}
+use Rattle.session_law.specs.BatchSteps.{batch_step, commit_step, drop_step, executed_step, next_step}
 use Rattle.session_law.specs.Worlds.{first_world}
 use Rattle.master_run.specs.Books.{Chronicle, IsKeptBook, first_book, noted, ran_at}
 use Rattle.master_run.proofs.Alls.{all_append, all_by, all_push}
@@ -147,7 +147,7 @@ results_push : (script : Script) (world : World) (batches : List Batch) (batch :
 results_push script world [] batch all e = (e, tt)
 results_push script world (first ∷ batches) batch all e = (all.0, results_push script (after script world first) batches batch all.1 e)
 
-pub apart_append : (all more : List Placed) → AreApart all → AreApart more → AllByRecursion (λ later. AllByRecursion (λ before. IsApart before later) all) more
+pub apart_append : (all more : List Queued) → AreApart all → AreApart more → AllByRecursion (λ later. AllByRecursion (λ before. IsApart before later) all) more
     → AreApart (all ++ more)
 apart_append [] more apart among cross = among
 apart_append (first ∷ all) more apart among cross = (
@@ -169,8 +169,8 @@ world_push : (script : Script) (world : World) (batches : List Batch) (batch : B
 world_push script world [] batch = refl
 world_push script world (first ∷ batches) batch = world_push script (after script world first) batches batch
 
-pub placed_push : (batches : List Batch) (batch : Batch) → placed_of (batches ++ batch ∷ []) ≡ placed_of batches ++ placed_in batch
-placed_push batches batch = flat_map-append placed_in batches (batch ∷ []) ∙ ap (λ l. placed_of batches ++ l) (append-nil (placed_in batch))
+pub placed_push : (batches : List Batch) (batch : Batch) → queued_of (batches ++ batch ∷ []) ≡ queued_of batches ++ queued_in batch
+placed_push batches batch = flat_map-append queued_in batches (batch ∷ []) ∙ ap (λ l. queued_of batches ++ l) (append-nil (queued_in batch))
 
 -- ---- the whole
 
@@ -179,8 +179,8 @@ kept_first script = record { serial = record { results = tt; filled = tt; own = 
 
 pub kept_join : (script : Script) (book : Chronicle) (number : ℕ) (queue : QueueSpec) (entries : List Entry) (at : ℕ)
     → IsScript script → IsKeptBook script book → slice_get script.queues number ≡ Some queue
-    → let placed : List Placed = map (λ e. record { queue = queue.name; entry = e }) entries in
-    0 < length entries → AllByRecursion (IsOwn script) placed → AllByRecursion (λ e. e.seen ≤ length book.batches) entries → AreApart (placed_of book.batches ++ placed)
+    → let placed : List Queued = map (λ e. record { queue = queue.name; entry = e }) entries in
+    0 < length entries → AllByRecursion (IsOwn script) placed → AllByRecursion (λ e. e.seen ≤ length book.batches) entries → AreApart (queued_of book.batches ++ placed)
     → IsKeptBook script (noted book queue entries at (ran_at script book.world queue entries at))
 kept_join script book number queue entries at valid kept e some own seen apart =
     let step : World → Kind → ℕ → Stepped = λ w k c. batch_step (cut_by script.faults) script.nodes w k (tasks_at script entries) c in
@@ -193,7 +193,7 @@ kept_join script book number queue entries at valid kept e some own seen apart =
       serial = record {
         results = results_push script (first_world script) book.batches batch kept.serial.results (ap (λ (s : Stepped). s.result) again);
         filled = all_push (λ (b : Batch). 0 < length b.entries) book.batches batch kept.serial.filled some;
-        own = subst (AllByRecursion (IsOwn script)) (sym (placed_push book.batches batch)) (all_append (IsOwn script) (placed_of book.batches) (placed_in batch) kept.serial.own own);
+        own = subst (AllByRecursion (IsOwn script)) (sym (placed_push book.batches batch)) (all_append (IsOwn script) (queued_of book.batches) (queued_in batch) kept.serial.own own);
         apart = subst AreApart (sym (placed_push book.batches batch)) apart;
         seen = seen_push 1 book.batches batch kept.serial.seen
             (all_by (λ (e : Entry). e.seen ≤ length book.batches) (λ (e : Entry). e.seen < 1 + length book.batches) (λ e less. omega arith) entries seen);

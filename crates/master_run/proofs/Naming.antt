@@ -2,11 +2,11 @@
 use Rattle.std.specs.Prelude.{◌≡◌, ℕ, zero, suc, ◌<◌, true, List, [], ◌∷◌, ◌++◌, take, Option, Some, None, option_and_then, slice_get, refl}
 use Rattle.std.proofs.Common.{sym, ◌∙◌, ap, arith, append-nil, append_assoc}
 use Rattle.std.proofs.Math.Bool.{true≢false}
-use Rattle.executors.specs.declared.scripts.Script.{Script}
-use Rattle.executors.specs.declared.steps.Goal.TheVariants as goal
-use Rattle.executors.specs.declared.steps.Step.{Step}
-use Rattle.executors.specs.declared.steps.Step.TheVariants.{Submit, Await, Watch, Next, Read, Sleep, Close}
-use Rattle.executors.specs.Scripts.{IsScript, are_steps, is_client, is_goal, is_step}
+use Rattle.scripts.specs.declared.whole_script.Script.{Script}
+use Rattle.scripts.specs.declared.steps.Goal.TheVariants as goal
+use Rattle.scripts.specs.declared.steps.Step.{Step}
+use Rattle.scripts.specs.declared.steps.Step.TheVariants.{Submit, Await, Watch, Next, Read, Sleep, Close}
+use Rattle.scripts.specs.Scripts.{IsScript, are_steps, is_client, is_goal, is_step}
 use Rattle.session_law.specs.Histories.{step_at}
 use Rattle.master_run.specs.Soundness.{is_submit_at}
 use Rattle.master_run.proofs.Bounds.{all_get, stood}

@@ -9,14 +9,14 @@ use Rattle.std.specs.Option.{option_map}
 use Rattle.std.proofs.lemmas.List.{length-append, length-map}
 use Rattle.std.proofs.lemmas.List.Filters.{length-filter_both}
 use Rattle.std.proofs.lemmas.Option.{slice_get_within}
-use Rattle.executors.specs.declared.scripts.Script.{Script}
-use Rattle.executors.specs.declared.steps.Goal.TheVariants as goal
-use Rattle.executors.specs.declared.steps.Step.{Step}
-use Rattle.executors.specs.declared.steps.Step.TheVariants.{Submit, Await, Watch, Next, Read, Sleep, Close}
-use Rattle.script_form.specs.Built.{IsBuilt}
-use Rattle.executors.specs.Scripts.{IsScript}
+use Rattle.scripts.specs.declared.whole_script.Script.{Script}
+use Rattle.scripts.specs.declared.steps.Goal.TheVariants as goal
+use Rattle.scripts.specs.declared.steps.Step.{Step}
+use Rattle.scripts.specs.declared.steps.Step.TheVariants.{Submit, Await, Watch, Next, Read, Sleep, Close}
+use Rattle.scripts.specs.Built.{IsBuilt}
+use Rattle.scripts.specs.Scripts.{IsScript}
 use Rattle.session_law.specs.Histories.{step_at}
-use Rattle.master_run.specs.declared.replaying.Replay.{Replay}
+use Rattle.master_run.specs.declared.replays.Replay.{Replay}
 use Rattle.master_run.specs.declared.tellings.Telling.{Telling}
 use Rattle.master_run.specs.declared.waitings.Waiting.{Waiting}
 use Rattle.master_run.specs.Replays.{begun, client_turns, most_rounds, performed, round_of, rounds}

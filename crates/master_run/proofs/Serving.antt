@@ -6,18 +6,18 @@ use Rattle.std.proofs.lemmas.List.{length-append, length-map}
 use Rattle.std.specs.Cmp.{unsigned_Decides}
 use Rattle.std.specs.Cmp.Lexicographic.{bytes_decides}
 use Rattle.std.specs.List.{AllByRecursion}
-use Rattle.executors.specs.declared.queues.QueueSpec.{QueueSpec}
-use Rattle.executors.specs.declared.scripts.Script.{Script}
-use Rattle.executors.specs.declared.steps.Step.{Step}
-use Rattle.executors.specs.declared.steps.Step.TheVariants.{Submit, Await, Watch, Next, Read, Sleep, Close}
-use Rattle.executors.specs.Scripts.{IsScript}
+use Rattle.scripts.specs.declared.queues.QueueSpec.{QueueSpec}
+use Rattle.scripts.specs.declared.whole_script.Script.{Script}
+use Rattle.scripts.specs.declared.steps.Step.{Step}
+use Rattle.scripts.specs.declared.steps.Step.TheVariants.{Submit, Await, Watch, Next, Read, Sleep, Close}
+use Rattle.scripts.specs.Scripts.{IsScript}
 use Rattle.session_law.specs.declared.batches.Batch.{Batch}
 use Rattle.session_law.specs.declared.batches.Entry.{Entry}
-use Rattle.session_law.specs.Histories.{AreApart, IsApart, IsOwn, Placed, is_named, is_own_step, placed_in, placed_of, step_at}
-use Rattle.master_run.specs.declared.replaying.Replay.{Replay}
+use Rattle.session_law.specs.Histories.{AreApart, IsApart, IsOwn, Queued, is_named, is_own_step, queued_in, queued_of, step_at}
+use Rattle.master_run.specs.declared.replays.Replay.{Replay}
 use Rattle.master_run.specs.declared.waitings.Waiting.{Waiting}
 use Rattle.master_run.specs.Books.{IsKeptBook, added, added_to, noted, ran_at}
-use Rattle.master_run.specs.Soundness.{AreApartAmong, IsPassed, IsSound, IsWaiting, is_submit_to, name_if, placed_at}
+use Rattle.master_run.specs.Soundness.{AreApartAmong, IsPassed, IsSound, IsWaiting, is_submit_to, name_if, queued_at}
 use Rattle.master_run.specs.Tellings.{told_all}
 use Rattle.master_run.specs.Turns.{master_turn, queue_turn, served}
 use Rattle.master_run.specs.Waitings.{entries_of, is_in, left_by, next_queue, rank_at, sooner, soonest, taken_from}
@@ -83,14 +83,14 @@ taken_all script positions batches number all waiting =
 
 -- with the name of its queue
 placed_named : (queues : List QueueSpec) (number : ℕ) (queue : QueueSpec) (w : Waiting) → slice_get queues number ≡ Some queue → is_in number w ≡ true
-    → placed_at queues w ≡ record { queue = queue.name; entry = w.entry }
+    → queued_at queues w ≡ record { queue = queue.name; entry = w.entry }
 placed_named queues number queue w e h =
     let same = (unsigned_Decides w.queue number).0 h in
     λ i. record { queue = name_if ((ap (slice_get queues) same ∙ e) i); entry = w.entry }
 
 -- the entries of a batch of what is taken
-placed_taken : (script : Script) (positions : List ℕ) (batches number : ℕ) (queue : QueueSpec) (P : Placed → Type 0) (all : List Waiting) → slice_get script.queues number ≡ Some queue
-    → AllByRecursion (IsTaken script positions batches number) all → AllByRecursion (λ w. P (placed_at script.queues w)) all
+placed_taken : (script : Script) (positions : List ℕ) (batches number : ℕ) (queue : QueueSpec) (P : Queued → Type 0) (all : List Waiting) → slice_get script.queues number ≡ Some queue
+    → AllByRecursion (IsTaken script positions batches number) all → AllByRecursion (λ w. P (queued_at script.queues w)) all
     → AllByRecursion P (map (λ e. record { queue = queue.name; entry = e }) (entries_of all))
 placed_taken script positions batches number queue P [] e taken h = tt
 placed_taken script positions batches number queue P (w ∷ all) e taken h =
@@ -109,9 +109,9 @@ own_step script name number queue (Some (Read _ _)) e named h = absurd (true≢f
 own_step script name number queue (Some (Sleep _)) e named h = absurd (true≢false (sym h))
 own_step script name number queue (Some Close) e named h = absurd (true≢false (sym h))
 
-waiting_own : (script : Script) (positions : List ℕ) (batches : ℕ) (w : Waiting) → IsWaiting script positions batches w → IsOwn script (placed_at script.queues w)
+waiting_own : (script : Script) (positions : List ℕ) (batches : ℕ) (w : Waiting) → IsWaiting script positions batches w → IsOwn script (queued_at script.queues w)
 waiting_own script positions batches w h =
-    own_step script (placed_at script.queues w).queue w.queue h.queue (step_at script w.entry.client w.entry.step) h.of_queue (sym (ap name_if h.of_queue)) h.own
+    own_step script (queued_at script.queues w).queue w.queue h.queue (step_at script w.entry.client w.entry.step) h.of_queue (sym (ap name_if h.of_queue)) h.own
 
 seen_few : (script : Script) (positions : List ℕ) (batches number : ℕ) (all : List Waiting) → AllByRecursion (IsTaken script positions batches number) all
     → AllByRecursion (λ e. e.seen ≤ batches) (entries_of all)
@@ -120,7 +120,7 @@ seen_few script positions batches number (w ∷ all) taken = (taken.0.0.seen, se
 
 -- ---- apart
 
-among_keep : (queues : List QueueSpec) (b : Bool) (w : Waiting) (all : List Waiting) → AllByRecursion (λ v. IsApart (placed_at queues w) (placed_at queues v)) all
+among_keep : (queues : List QueueSpec) (b : Bool) (w : Waiting) (all : List Waiting) → AllByRecursion (λ v. IsApart (queued_at queues w) (queued_at queues v)) all
     → AreApartAmong queues all → AreApartAmong queues (cond b (w ∷ all) all)
 among_keep queues true w all apart among = (apart, among)
 among_keep queues false w all apart among = among
@@ -128,7 +128,7 @@ among_keep queues false w all apart among = among
 among_filter : (queues : List QueueSpec) (p : Waiting → Bool) (all : List Waiting) → AreApartAmong queues all → AreApartAmong queues (filter p all)
 among_filter queues p [] among = tt
 among_filter queues p (w ∷ all) among =
-    among_keep queues (p w) w (filter p all) (all_filter (λ v. IsApart (placed_at queues w) (placed_at queues v)) p all among.0) (among_filter queues p all among.1)
+    among_keep queues (p w) w (filter p all) (all_filter (λ v. IsApart (queued_at queues w) (queued_at queues v)) p all among.0) (among_filter queues p all among.1)
 
 same_turned : (a b c d : ℕ) → ((a == c) && (b == d)) ≡ false → ((c == a) && (d == b)) ≡ false
 same_turned a b c d h = false_from _ (λ same.
@@ -139,7 +139,7 @@ same_turned a b c d h = false_from _ (λ same.
 
 -- what waits in one queue may also come before what waits in another
 turned : (script : Script) (positions : List ℕ) (batches number : ℕ) (w t : Waiting) → IsScript script → IsWaiting script positions batches w → is_in number w ≡ false
-    → IsTaken script positions batches number t → IsApart (placed_at script.queues w) (placed_at script.queues t) → IsApart (placed_at script.queues t) (placed_at script.queues w)
+    → IsTaken script positions batches number t → IsApart (queued_at script.queues w) (queued_at script.queues t) → IsApart (queued_at script.queues t) (queued_at script.queues w)
 turned script positions batches number w t valid waits elsewhere taken apart = record {
   other = same_turned w.entry.client w.entry.step t.entry.client t.entry.step apart.other;
   rises = λ q same.
@@ -149,18 +149,18 @@ turned script positions batches number w t valid waits elsewhere taken apart = r
 }
 
 abbrev AreCrossed : List QueueSpec → List Waiting → List Waiting → Type 0
-AreCrossed queues taken left = AllByRecursion (λ l. AllByRecursion (λ t. IsApart (placed_at queues t) (placed_at queues l)) taken) left
+AreCrossed queues taken left = AllByRecursion (λ l. AllByRecursion (λ t. IsApart (queued_at queues t) (queued_at queues l)) taken) left
 
 crossed_more : (script : Script) (positions : List ℕ) (batches number : ℕ) (w : Waiting) (taken left : List Waiting) (b : Bool) → IsScript script → is_in number w ≡ b
     → IsWaiting script positions batches w → AllByRecursion (IsTaken script positions batches number) taken
-    → AllByRecursion (λ v. IsApart (placed_at script.queues w) (placed_at script.queues v)) taken → AllByRecursion (λ v. IsApart (placed_at script.queues w) (placed_at script.queues v)) left
+    → AllByRecursion (λ v. IsApart (queued_at script.queues w) (queued_at script.queues v)) taken → AllByRecursion (λ v. IsApart (queued_at script.queues w) (queued_at script.queues v)) left
     → AreCrossed script.queues taken left → AreCrossed script.queues (cond b (w ∷ taken) taken) (cond (not b) (w ∷ left) left)
 crossed_more script positions batches number w taken left true valid e waits are_taken from_taken from_left crossed =
-    all_both (λ l. IsApart (placed_at script.queues w) (placed_at script.queues l)) (λ l. AllByRecursion (λ t. IsApart (placed_at script.queues t) (placed_at script.queues l)) taken) left from_left crossed
+    all_both (λ l. IsApart (queued_at script.queues w) (queued_at script.queues l)) (λ l. AllByRecursion (λ t. IsApart (queued_at script.queues t) (queued_at script.queues l)) taken) left from_left crossed
 crossed_more script positions batches number w taken left false valid e waits are_taken from_taken from_left crossed = (
-  all_by (λ t. IsTaken script positions batches number t × IsApart (placed_at script.queues w) (placed_at script.queues t)) (λ t. IsApart (placed_at script.queues t) (placed_at script.queues w))
+  all_by (λ t. IsTaken script positions batches number t × IsApart (queued_at script.queues w) (queued_at script.queues t)) (λ t. IsApart (queued_at script.queues t) (queued_at script.queues w))
       (λ t h. turned script positions batches number w t valid waits e h.0 h.1) taken
-      (all_both (IsTaken script positions batches number) (λ t. IsApart (placed_at script.queues w) (placed_at script.queues t)) taken are_taken from_taken),
+      (all_both (IsTaken script positions batches number) (λ t. IsApart (queued_at script.queues w) (queued_at script.queues t)) taken are_taken from_taken),
   crossed,
 )
 
@@ -168,7 +168,7 @@ crossed : (script : Script) (positions : List ℕ) (batches number : ℕ) (all :
     → AreApartAmong script.queues all → AreCrossed script.queues (taken_from number all) (left_by number all)
 crossed script positions batches number [] valid waiting among = tt
 crossed script positions batches number (w ∷ all) valid waiting among =
-    let from : Waiting → Type 0 = λ v. IsApart (placed_at script.queues w) (placed_at script.queues v) in
+    let from : Waiting → Type 0 = λ v. IsApart (queued_at script.queues w) (queued_at script.queues v) in
     crossed_more script positions batches number w (taken_from number all) (left_by number all) (is_in number w) valid refl waiting.0
     (taken_all script positions batches number all waiting.1) (all_filter from (is_in number) all among.0) (all_filter from (λ v. not (is_in number v)) all among.0)
     (crossed script positions batches number all valid waiting.1 among.1)
@@ -178,7 +178,7 @@ taken_apart : (script : Script) (positions : List ℕ) (batches number : ℕ) (q
 taken_apart script positions batches number queue [] e taken among = tt
 taken_apart script positions batches number queue (w ∷ all) e taken among = (
   placed_taken script positions batches number queue (IsApart (record { queue = queue.name; entry = w.entry })) all e taken.1
-      (subst (λ p. AllByRecursion (λ v. IsApart p (placed_at script.queues v)) all) (placed_named script.queues number queue w e taken.0.1) among.0),
+      (subst (λ p. AllByRecursion (λ v. IsApart p (queued_at script.queues v)) all) (placed_named script.queues number queue w e taken.0.1) among.0),
   taken_apart script positions batches number queue all e taken.1 among.1,
 )
 
@@ -192,10 +192,10 @@ taken_kept : (script : Script) (replay : Replay) (number : ℕ) (queue : QueueSp
 taken_kept script replay number queue valid sound e some =
     let batches = length replay.book.batches in
     let taken = taken_from number replay.waiting in
-    let placed = placed_of replay.book.batches in
+    let placed = queued_of replay.book.batches in
     let are_taken = taken_all script replay.positions batches number replay.waiting sound.waiting in
-    let own = all_by (IsTaken script replay.positions batches number) (λ w. IsOwn script (placed_at script.queues w)) (λ w h. waiting_own script replay.positions batches w h.0) taken are_taken in
-    let from : Placed → Type 0 = λ later. AllByRecursion (λ before. IsApart before later) placed in
+    let own = all_by (IsTaken script replay.positions batches number) (λ w. IsOwn script (queued_at script.queues w)) (λ w h. waiting_own script replay.positions batches w h.0) taken are_taken in
+    let from : Queued → Type 0 = λ later. AllByRecursion (λ before. IsApart before later) placed in
     kept_join script replay.book number queue (entries_of taken) replay.clock valid sound.kept e
     (subst (λ n. 0 < n) (sym (length-map taken (λ (w : Waiting). w.entry))) some)
     (placed_taken script replay.positions batches number queue (IsOwn script) taken e are_taken own)
@@ -203,7 +203,7 @@ taken_kept script replay number queue valid sound e some =
     (apart_append placed (map (λ e. record { queue = queue.name; entry = e }) (entries_of taken)) sound.kept.serial.apart
     (taken_apart script replay.positions batches number queue taken e are_taken (among_filter script.queues (is_in number) replay.waiting sound.among))
     (placed_taken script replay.positions batches number queue from taken e are_taken
-    (all_filter (λ w. from (placed_at script.queues w)) (is_in number) replay.waiting sound.apart)))
+    (all_filter (λ w. from (queued_at script.queues w)) (is_in number) replay.waiting sound.apart)))
 
 waits_longer : (script : Script) (positions : List ℕ) (batches more : ℕ) (w : Waiting) → batches ≤ more → IsWaiting script positions batches w → IsWaiting script positions more w
 waits_longer script positions batches more w less h =
@@ -222,32 +222,32 @@ queue_sound script replay number queue valid sound e some =
     let batches = length replay.book.batches in
     let taken = taken_from number replay.waiting in
     let left = left_by number replay.waiting in
-    let placed = placed_of replay.book.batches in
+    let placed = queued_of replay.book.batches in
     let made = ran_at script replay.book.world queue (entries_of taken) replay.clock in
     let batch : Batch = record { queue = queue.name; at = replay.clock; entries = entries_of taken; result = made.result } in
     let pushed = placed_push replay.book.batches batch in
     let longer = length-append replay.book.batches (batch ∷ []) in
     let are_taken = taken_all script replay.positions batches number replay.waiting sound.waiting in
-    let own = all_by (IsTaken script replay.positions batches number) (λ w. IsOwn script (placed_at script.queues w)) (λ w h. waiting_own script replay.positions batches w h.0) taken are_taken in
+    let own = all_by (IsTaken script replay.positions batches number) (λ w. IsOwn script (queued_at script.queues w)) (λ w h. waiting_own script replay.positions batches w h.0) taken are_taken in
     let ends = ends_count script replay.book.world queue (entries_of taken) replay.clock (placed_taken script replay.positions batches number queue (IsOwn script) taken e are_taken own) in
     let entries = length-map taken (λ (w : Waiting). w.entry) in
     let more = length (replay.book.batches ++ batch ∷ []) in
-    let passed = all_by (IsTaken script replay.positions batches number) (λ w. IsPassed replay.positions (placed_at script.queues w)) (λ w h. h.0.passed) taken are_taken in
+    let passed = all_by (IsTaken script replay.positions batches number) (λ w. IsPassed replay.positions (queued_at script.queues w)) (λ w h. h.0.passed) taken are_taken in
     let elsewhere : Waiting → Bool = λ w. not (is_in number w) in
-    let from : List Placed → Waiting → Type 0 = λ all w. AllByRecursion (λ before. IsApart before (placed_at script.queues w)) all in
-    let from_taken : Waiting → Type 0 = λ l. AllByRecursion (λ t. IsApart (placed_at script.queues t) (placed_at script.queues l)) taken in
+    let from : List Queued → Waiting → Type 0 = λ all w. AllByRecursion (λ before. IsApart before (queued_at script.queues w)) all in
+    let from_taken : Waiting → Type 0 = λ l. AllByRecursion (λ t. IsApart (queued_at script.queues t) (queued_at script.queues l)) taken in
     record {
       places = sound.places;
       kept = taken_kept script replay number queue valid sound e some;
       passed = subst (AllByRecursion (IsPassed replay.positions)) (sym pushed)
-          (all_append (IsPassed replay.positions) placed (placed_in batch) sound.passed (placed_taken script replay.positions batches number queue (IsPassed replay.positions) taken e are_taken passed));
+          (all_append (IsPassed replay.positions) placed (queued_in batch) sound.passed (placed_taken script replay.positions batches number queue (IsPassed replay.positions) taken e are_taken passed));
       waiting = all_by (IsWaiting script replay.positions batches) (IsWaiting script replay.positions (length (replay.book.batches ++ batch ∷ [])))
           (λ w h. waits_longer script replay.positions batches (length (replay.book.batches ++ batch ∷ [])) w (omega arith) h) left
           (all_filter (IsWaiting script replay.positions batches) elsewhere replay.waiting sound.waiting);
       apart = subst (λ all. AllByRecursion (from all) left) (sym pushed)
-          (all_by (λ l. from placed l × from_taken l) (from (placed ++ placed_in batch))
-          (λ l h. all_append (λ before. IsApart before (placed_at script.queues l)) placed (placed_in batch) h.0
-          (placed_taken script replay.positions batches number queue (λ before. IsApart before (placed_at script.queues l)) taken e are_taken h.1)) left
+          (all_by (λ l. from placed l × from_taken l) (from (placed ++ queued_in batch))
+          (λ l h. all_append (λ before. IsApart before (queued_at script.queues l)) placed (queued_in batch) h.0
+          (placed_taken script replay.positions batches number queue (λ before. IsApart before (queued_at script.queues l)) taken e are_taken h.1)) left
           (all_both (from placed) from_taken left (all_filter (from placed) elsewhere replay.waiting sound.apart)
           (crossed script replay.positions batches number replay.waiting valid sound.waiting sound.among)));
       among = among_filter script.queues elsewhere replay.waiting sound.among;

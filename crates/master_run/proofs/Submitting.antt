@@ -5,16 +5,16 @@ use Rattle.std.proofs.lemmas.List.{get_or-set_same, length-set}
 use Rattle.std.proofs.lemmas.Option.{slice_get_within}
 use Rattle.std.specs.Cmp.{unsigned_Decides}
 use Rattle.std.specs.List.{AllByRecursion}
-use Rattle.executors.specs.declared.queues.QueueSpec.{QueueSpec}
-use Rattle.executors.specs.declared.scripts.Script.{Script}
-use Rattle.executors.specs.declared.steps.Goal.TheVariants as goal
-use Rattle.executors.specs.declared.steps.Step.{Step}
-use Rattle.executors.specs.declared.steps.Step.TheVariants.{Submit, Await, Watch, Next, Read, Sleep, Close}
-use Rattle.executors.specs.Scripts.{IsScript}
-use Rattle.session_law.specs.Histories.{IsApart, Placed, placed_of, step_at}
-use Rattle.master_run.specs.declared.replaying.Replay.{Replay}
+use Rattle.scripts.specs.declared.queues.QueueSpec.{QueueSpec}
+use Rattle.scripts.specs.declared.whole_script.Script.{Script}
+use Rattle.scripts.specs.declared.steps.Goal.TheVariants as goal
+use Rattle.scripts.specs.declared.steps.Step.{Step}
+use Rattle.scripts.specs.declared.steps.Step.TheVariants.{Submit, Await, Watch, Next, Read, Sleep, Close}
+use Rattle.scripts.specs.Scripts.{IsScript}
+use Rattle.session_law.specs.Histories.{IsApart, Queued, queued_of, step_at}
+use Rattle.master_run.specs.declared.replays.Replay.{Replay}
 use Rattle.master_run.specs.declared.waitings.Waiting.{Waiting}
-use Rattle.master_run.specs.Soundness.{AreApartAmong, IsPassed, IsSound, IsWaiting, is_submit_at, is_submit_to, placed_at}
+use Rattle.master_run.specs.Soundness.{AreApartAmong, IsPassed, IsSound, IsWaiting, is_submit_at, is_submit_to, queued_at}
 use Rattle.master_run.specs.Tellings.{batch_told}
 use Rattle.master_run.specs.Turns.{awaited_by, client_turn, next_at, seen_at, step_turn, submitted_to, waiting_of}
 use Rattle.master_run.proofs.Alls.{all_by, all_push}
@@ -32,7 +32,7 @@ next_rises (p ∷ positions) zero (suc other) = omega arith
 next_rises (p ∷ positions) (suc client) zero = omega arith
 next_rises (p ∷ positions) (suc client) (suc other) = next_rises positions client other
 
-still_passed : (positions : List ℕ) (client : ℕ) (placed : Placed) → IsPassed positions placed → IsPassed (slice_set positions client (next_at positions client + 1)) placed
+still_passed : (positions : List ℕ) (client : ℕ) (placed : Queued) → IsPassed positions placed → IsPassed (slice_set positions client (next_at positions client + 1)) placed
 still_passed positions client placed h = let more = next_rises positions client placed.entry.client in omega arith
 
 -- ---- the new entry
@@ -44,7 +44,7 @@ not_same positions a b c d less e h =
     let next = ap (next_at positions) same in
     omega arith
 
-apart_next : (positions : List ℕ) (before placed : Placed) → IsPassed positions before → placed.entry.step ≡ next_at positions placed.entry.client → IsApart before placed
+apart_next : (positions : List ℕ) (before placed : Queued) → IsPassed positions before → placed.entry.step ≡ next_at positions placed.entry.client → IsApart before placed
 apart_next positions before placed passed e = record {
   other = false_from _ (not_same positions before.entry.client before.entry.step placed.entry.client placed.entry.step passed e);
   rises = λ q same. let next = ap (next_at positions) same in omega (arith, passed, e, next);
@@ -60,32 +60,32 @@ waits_on script positions client batches w h = record {
   seen = h.seen;
 }
 
-among_push : (queues : List QueueSpec) (all : List Waiting) (w : Waiting) → AreApartAmong queues all → AllByRecursion (λ v. IsApart (placed_at queues v) (placed_at queues w)) all
+among_push : (queues : List QueueSpec) (all : List Waiting) (w : Waiting) → AreApartAmong queues all → AllByRecursion (λ v. IsApart (queued_at queues v) (queued_at queues w)) all
     → AreApartAmong queues (all ++ w ∷ [])
 among_push queues [] w among h = (tt, tt)
-among_push queues (v ∷ all) w among h = (all_push (λ w. IsApart (placed_at queues v) (placed_at queues w)) all w among.0 h.0, among_push queues all w among.1 h.1)
+among_push queues (v ∷ all) w among h = (all_push (λ w. IsApart (queued_at queues v) (queued_at queues w)) all w among.0 h.0, among_push queues all w among.1 h.1)
 
 pub submit_sound : (script : Script) (replay : Replay) (client number : ℕ) (queue : QueueSpec) → slice_get script.queues number ≡ Some queue
     → is_submit_to number (step_at script client (next_at replay.positions client)) ≡ true → client < length replay.positions
     → IsSound script replay → IsSound script (submitted_to replay client number)
 submit_sound script replay client number queue e own within sound =
     let w = waiting_of replay client number in
-    let placed = placed_at script.queues w in
+    let placed = queued_at script.queues w in
     let positions = slice_set replay.positions client (next_at replay.positions client + 1) in
     let mine = get_or-set_same replay.positions client (next_at replay.positions client + 1) 0 within in
     record {
       places = length-set replay.positions client (next_at replay.positions client + 1) ∙ sound.places;
       kept = sound.kept;
-      passed = all_by (IsPassed replay.positions) (IsPassed positions) (still_passed replay.positions client) (placed_of replay.book.batches) sound.passed;
+      passed = all_by (IsPassed replay.positions) (IsPassed positions) (still_passed replay.positions client) (queued_of replay.book.batches) sound.passed;
       waiting = all_push (IsWaiting script positions (length replay.book.batches)) replay.waiting w
           (all_by (IsWaiting script replay.positions (length replay.book.batches)) (IsWaiting script positions (length replay.book.batches))
           (waits_on script replay.positions client (length replay.book.batches)) replay.waiting sound.waiting)
           (record { queue = queue; of_queue = e; own = own; passed = omega (arith, mine); seen = seen_within (length replay.book.batches) replay.awaited client sound.awaited });
-      apart = all_push (λ w. AllByRecursion (λ before. IsApart before (placed_at script.queues w)) (placed_of replay.book.batches)) replay.waiting w sound.apart
-          (all_by (IsPassed replay.positions) (λ before. IsApart before placed) (λ before h. apart_next replay.positions before placed h refl) (placed_of replay.book.batches) sound.passed);
+      apart = all_push (λ w. AllByRecursion (λ before. IsApart before (queued_at script.queues w)) (queued_of replay.book.batches)) replay.waiting w sound.apart
+          (all_by (IsPassed replay.positions) (λ before. IsApart before placed) (λ before h. apart_next replay.positions before placed h refl) (queued_of replay.book.batches) sound.passed);
       among = among_push script.queues replay.waiting w sound.among
-          (all_by (IsWaiting script replay.positions (length replay.book.batches)) (λ v. IsApart (placed_at script.queues v) placed)
-          (λ v h. apart_next replay.positions (placed_at script.queues v) placed h.passed refl) replay.waiting sound.waiting);
+          (all_by (IsWaiting script replay.positions (length replay.book.batches)) (λ v. IsApart (queued_at script.queues v) placed)
+          (λ v h. apart_next replay.positions (queued_at script.queues v) placed h.passed refl) replay.waiting sound.waiting);
       awaited_places = sound.awaited_places;
       awaited = sound.awaited;
       told = sound.told;
@@ -108,7 +108,7 @@ await_sound script replay client earlier (Some batch) e none sound =
     record {
       places = length-set replay.positions client (next_at replay.positions client + 1) ∙ sound.places;
       kept = sound.kept;
-      passed = all_by (IsPassed replay.positions) (IsPassed positions) (still_passed replay.positions client) (placed_of replay.book.batches) sound.passed;
+      passed = all_by (IsPassed replay.positions) (IsPassed positions) (still_passed replay.positions client) (queued_of replay.book.batches) sound.passed;
       waiting = all_by (IsWaiting script replay.positions batches) (IsWaiting script positions batches) (waits_on script replay.positions client batches) replay.waiting sound.waiting;
       apart = sound.apart;
       among = sound.among;

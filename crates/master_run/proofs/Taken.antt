@@ -5,18 +5,18 @@ use Rattle.std.proofs.Math.Bool.{true≢false}
 use Rattle.std.specs.List.{AllByRecursion, cons_option, list_all}
 use Rattle.std.specs.Cmp.Lexicographic.{bytes_decides}
 use Rattle.std.proofs.lemmas.List.{length-append, length-map}
-use Rattle.executors.specs.declared.queues.QueueSpec.{QueueSpec}
-use Rattle.executors.specs.declared.scripts.Script.{Script}
-use Rattle.executors.specs.declared.steps.Step.{Step}
-use Rattle.executors.specs.declared.steps.Step.TheVariants.{Submit, Await, Watch, Next, Read, Sleep, Close}
+use Rattle.scripts.specs.declared.queues.QueueSpec.{QueueSpec}
+use Rattle.scripts.specs.declared.whole_script.Script.{Script}
+use Rattle.scripts.specs.declared.steps.Step.{Step}
+use Rattle.scripts.specs.declared.steps.Step.TheVariants.{Submit, Await, Watch, Next, Read, Sleep, Close}
 use Rattle.executors.specs.declared.tasks.Task.{Task}
-use Rattle.script_form.specs.Built.{IsBuilt, is_built_step}
+use Rattle.scripts.specs.Built.{IsBuilt, is_built_step}
 use Rattle.executors.specs.Kinds.{accepts}
-use Rattle.executors.proofs.Takes.{accepts_task_for}
-use Rattle.executors.specs.Scripts.{IsScript, are_steps, is_client, is_queue_for, is_step}
+use Rattle.scripts.proofs.Takes.{accepts_task_for}
+use Rattle.scripts.specs.Scripts.{IsScript, are_steps, is_client, is_queue_for, is_step}
 use Rattle.session_law.specs.declared.batches.Batch.{Batch}
 use Rattle.session_law.specs.declared.batches.Entry.{Entry}
-use Rattle.session_law.specs.Histories.{IsOwn, Placed, is_named, is_own_step, kind_named, placed_in, placed_of, step_at, submitted, task_at, tasks_at}
+use Rattle.session_law.specs.Histories.{IsOwn, Queued, is_named, is_own_step, kind_named, queued_in, queued_of, step_at, submitted, task_at, tasks_at}
 use Rattle.session_law.proofs.Counts.{filter_map_shorter}
 use Rattle.master_run.specs.Books.{Chronicle, IsKeptBook, noted, ran_at}
 use Rattle.master_run.proofs.Bounds.{Stands, all_get, entries_few, stands, stood}
@@ -30,8 +30,8 @@ few_tasks script book queue entries at valid kept =
     let made = ran_at script book.world queue entries at in
     let batch : Batch = record { queue = queue.name; at = at; entries = entries; result = made.result } in
     let all = entries_few script (book.batches ++ batch ∷ []) made.world valid kept in
-    let longer : length (placed_of (book.batches ++ batch ∷ [])) ≡ length (placed_of book.batches) + length entries =
-    ap length (placed_push book.batches batch) ∙ length-append (placed_of book.batches) (placed_in batch) ∙ ap (λ n. length (placed_of book.batches) + n) (length-map entries (λ e. record { queue = queue.name; entry = e })) in
+    let longer : length (queued_of (book.batches ++ batch ∷ [])) ≡ length (queued_of book.batches) + length entries =
+    ap length (placed_push book.batches batch) ∙ length-append (queued_of book.batches) (queued_in batch) ∙ ap (λ n. length (queued_of book.batches) + n) (length-map entries (λ e. record { queue = queue.name; entry = e })) in
     let shorter = filter_map_shorter (task_at script) entries in
     omega arith
 
@@ -118,7 +118,7 @@ entries_taken script number queue (entry ∷ entries) valid e own =
     entry_taken script number queue entry valid e (stands script (record { queue = queue.name; entry = entry }) own.0) (tasks_at script entries)
     (entries_taken script number queue entries valid e own.1)
 
-own_last : (script : Script) (before more : List Placed) → AllByRecursion (IsOwn script) (before ++ more) → AllByRecursion (IsOwn script) more
+own_last : (script : Script) (before more : List Queued) → AllByRecursion (IsOwn script) (before ++ more) → AllByRecursion (IsOwn script) more
 own_last script [] more own = own
 own_last script (placed ∷ before) more own = own_last script before more own.1
 
@@ -129,4 +129,4 @@ tasks_taken script book number queue entries at valid e kept =
     let made = ran_at script book.world queue entries at in
     let batch : Batch = record { queue = queue.name; at = at; entries = entries; result = made.result } in
     let own = subst (AllByRecursion (IsOwn script)) (placed_push book.batches batch) kept.serial.own in
-    entries_taken script number queue entries valid e (own_last script (placed_of book.batches) (placed_in batch) own)
+    entries_taken script number queue entries valid e (own_last script (queued_of book.batches) (queued_in batch) own)

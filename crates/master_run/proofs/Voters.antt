@@ -1,6 +1,6 @@
 -- No more nodes vote than there are.
 use Rattle.std.specs.Prelude.{ℕ, ◌≤◌, List, length}
-use Rattle.meta_state.specs.declared.nodes.NodeInfo.{NodeInfo}
+use Rattle.meta_state.specs.declared.node_info.NodeInfo.{NodeInfo}
 use Rattle.session_law.specs.Publications.{electorate}
 use Rattle.std.proofs.lemmas.List.Sums.{count_by-le-length}
 

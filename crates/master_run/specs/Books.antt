@@ -1,16 +1,16 @@
 -- The master's book: the batches so far, how the tasks of the last one ended, and the world after them. It is kept
 -- where the batches are a serial history of the script and the world is the one after them.
 use Rattle.std.specs.Prelude.{ℕ, List, [], ◌∷◌, ◌++◌, Option, Some, None, slice_get}
-use Rattle.executors.specs.declared.ends.TaskEnd.{TaskEnd}
-use Rattle.executors.specs.declared.queues.QueueSpec.{QueueSpec}
-use Rattle.executors.specs.declared.scripts.Script.{Script}
+use Rattle.session_law.specs.declared.task_ends.TaskEnd.{TaskEnd}
+use Rattle.scripts.specs.declared.queues.QueueSpec.{QueueSpec}
+use Rattle.scripts.specs.declared.whole_script.Script.{Script}
 use Rattle.session_law.specs.declared.batches.Batch.{Batch}
 use Rattle.session_law.specs.declared.batches.Entry.{Entry}
 use Rattle.session_law.specs.declared.worlds.Stepped.{Stepped}
 use Rattle.session_law.specs.declared.worlds.World.{World}
 use Rattle.session_law.specs.Histories.{IsKept, tasks_at}
 use Rattle.session_law.specs.Publications.{cut_by}
-use Rattle.session_law.specs.Steps.{batch_step}
+use Rattle.session_law.specs.BatchSteps.{batch_step}
 use Rattle.session_law.specs.Worlds.{first_world}
 
 pub record Chronicle : Type 0 where

@@ -2,7 +2,7 @@
 use Rattle.std.specs.Option.{unwrap_or}
 use Rattle.session_law.specs.declared.worlds.Stepped.{Stepped}
 use Rattle.session_law.specs.declared.worlds.World.{World}
-use Rattle.master_run.specs.declared.batching.Outcome.{Outcome}
+use Rattle.master_run.specs.declared.batch_runs.Outcome.{Outcome}
 
 abbrev pub stepped_from : World → Outcome → Stepped
 stepped_from world made = record { result = made.outcome; ends = made.ends; world = unwrap_or made.world world }

@@ -1,11 +1,11 @@
 -- The serial rule so far, and the session that it makes of a script: rounds of turns, until one in which no turn acts.
 -- The rule is this project's own.
 use Rattle.std.specs.Prelude.{ℕ, zero, suc, ◌+◌, ◌*◌, false, List, [], ◌∷◌, length, if◌then◌else◌}
-use Rattle.executors.specs.declared.scripts.Script.{Script}
-use Rattle.executors.specs.declared.steps.Step.{Step}
-use Rattle.executors.specs.Scripts.{all_steps}
+use Rattle.scripts.specs.declared.whole_script.Script.{Script}
+use Rattle.scripts.specs.declared.steps.Step.{Step}
+use Rattle.scripts.specs.Scripts.{all_steps}
 use Rattle.session_law.specs.declared.sessions.Session.{Session}
-use Rattle.master_run.specs.declared.replaying.Replay.{Replay}
+use Rattle.master_run.specs.declared.replays.Replay.{Replay}
 use Rattle.master_run.specs.Tellings.{replies_of}
 use Rattle.master_run.specs.Turns.{client_turn, first_replay, master_turn}
 

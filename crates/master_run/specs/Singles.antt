@@ -2,8 +2,8 @@
 -- step. So it is until a schedule or a sleep comes between.
 use Rattle.std.specs.Prelude.{◌≡◌, List, length}
 use Rattle.std.specs.List.{AllByRecursion}
-use Rattle.executors.specs.declared.scripts.Script.{Script}
-use Rattle.executors.specs.Scripts.{submits}
+use Rattle.scripts.specs.declared.whole_script.Script.{Script}
+use Rattle.scripts.specs.Scripts.{submits}
 use Rattle.session_law.specs.declared.batches.Batch.{Batch}
 
 pub record IsSingle (batch : Batch) : Type 0 where

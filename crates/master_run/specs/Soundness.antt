@@ -4,20 +4,20 @@ use Rattle.std.specs.Prelude.{◌≡◌, ℕ, ◌<◌, ◌≤◌, Bool, false, �
 use Rattle.std.specs.BTreeMap.{is_at}
 use Rattle.std.specs.List.{AllByRecursion, list_any}
 use Rattle.std.specs.Map.{lookup}
-use Rattle.executors.specs.declared.queues.QueueSpec.{QueueSpec}
-use Rattle.executors.specs.declared.scripts.Script.{Script}
-use Rattle.executors.specs.declared.steps.Step.{Step}
-use Rattle.executors.specs.declared.steps.Step.TheVariants.{Submit}
-use Rattle.executors.specs.Scripts.{is_submit}
-use Rattle.session_law.specs.Histories.{IsApart, Placed, placed_of, step_at}
-use Rattle.master_run.specs.declared.replaying.Replay.{Replay}
+use Rattle.scripts.specs.declared.queues.QueueSpec.{QueueSpec}
+use Rattle.scripts.specs.declared.whole_script.Script.{Script}
+use Rattle.scripts.specs.declared.steps.Step.{Step}
+use Rattle.scripts.specs.declared.steps.Step.TheVariants.{Submit}
+use Rattle.scripts.specs.Scripts.{is_submit}
+use Rattle.session_law.specs.Histories.{IsApart, Queued, queued_of, step_at}
+use Rattle.master_run.specs.declared.replays.Replay.{Replay}
 use Rattle.master_run.specs.declared.waitings.Waiting.{Waiting}
 use Rattle.master_run.specs.Books.{IsKeptBook}
 use Rattle.master_run.specs.Tellings.{Tellings, step_cmp}
 use Rattle.master_run.specs.Turns.{next_at}
 
 -- an entry's step was performed
-abbrev pub IsPassed : List ℕ → Placed → Type 0
+abbrev pub IsPassed : List ℕ → Queued → Type 0
 IsPassed positions placed = placed.entry.step < next_at positions placed.entry.client
 
 abbrev pub is_submit_to : ℕ → Option Step → Bool
@@ -29,8 +29,8 @@ name_if None = []
 name_if (Some queue) = queue.name
 
 -- a waiting entry with the name of its queue
-abbrev pub placed_at : List QueueSpec → Waiting → Placed
-placed_at queues waiting = record { queue = name_if (slice_get queues waiting.queue); entry = waiting.entry }
+abbrev pub queued_at : List QueueSpec → Waiting → Queued
+queued_at queues waiting = record { queue = name_if (slice_get queues waiting.queue); entry = waiting.entry }
 
 -- an entry that waits is a submit of the script to its queue, was performed, and saw no batch that didn't run yet
 pub record IsWaiting (script : Script) (positions : List ℕ) (batches : ℕ) (waiting : Waiting) : Type 0 where
@@ -41,12 +41,12 @@ pub record IsWaiting (script : Script) (positions : List ℕ) (batches : ℕ) (w
   pub seen : waiting.entry.seen ≤ batches
 
 -- each entry of a list may join all that waits before it
-abbrev pub AreApartFrom : List QueueSpec → List Placed → List Waiting → Type 0
-AreApartFrom queues placed all = AllByRecursion (λ w. AllByRecursion (λ before. IsApart before (placed_at queues w)) placed) all
+abbrev pub AreApartFrom : List QueueSpec → List Queued → List Waiting → Type 0
+AreApartFrom queues placed all = AllByRecursion (λ w. AllByRecursion (λ before. IsApart before (queued_at queues w)) placed) all
 
 abbrev pub AreApartAmong : List QueueSpec → List Waiting → Type 0
 AreApartAmong queues [] = Unit {0}
-AreApartAmong queues (first ∷ more) = AllByRecursion (λ w. IsApart (placed_at queues first) (placed_at queues w)) more × AreApartAmong queues more
+AreApartAmong queues (first ∷ more) = AllByRecursion (λ w. IsApart (queued_at queues first) (queued_at queues w)) more × AreApartAmong queues more
 
 -- a batch of this number ran
 pub record IsRun (batches number : ℕ) : Type 0 where
@@ -78,9 +78,9 @@ AreHeld script positions waiting told = (client step : ℕ) → step < next_at p
 pub record IsSound (script : Script) (replay : Replay) : Type 0 where
   pub places : length replay.positions ≡ length script.clients
   pub kept : IsKeptBook script replay.book
-  pub passed : AllByRecursion (IsPassed replay.positions) (placed_of replay.book.batches)
+  pub passed : AllByRecursion (IsPassed replay.positions) (queued_of replay.book.batches)
   pub waiting : AllByRecursion (IsWaiting script replay.positions (length replay.book.batches)) replay.waiting
-  pub apart : AreApartFrom script.queues (placed_of replay.book.batches) replay.waiting
+  pub apart : AreApartFrom script.queues (queued_of replay.book.batches) replay.waiting
   pub among : AreApartAmong script.queues replay.waiting
   pub awaited_places : length replay.awaited ≡ length script.clients
   pub awaited : AllByRecursion (λ number. number ≤ length replay.book.batches) replay.awaited

@@ -1,13 +1,13 @@
 -- The turns of a replay: a client performs its next step, and the master takes all that waits in one queue. Each marks
 -- that it acted, or leaves all as it was. The rule is this project's own.
 use Rattle.std.specs.Prelude.{ℕ, ◌+◌, true, false, List, [], ◌∷◌, ◌++◌, length, map, max, Option, Some, None, slice_index_or, slice_set}
-use Rattle.executors.specs.declared.scripts.Script.{Script}
-use Rattle.executors.specs.declared.steps.Step.{Step}
-use Rattle.executors.specs.declared.steps.Goal.TheVariants as goal
-use Rattle.executors.specs.declared.steps.Step.TheVariants.{Submit, Await}
+use Rattle.scripts.specs.declared.whole_script.Script.{Script}
+use Rattle.scripts.specs.declared.steps.Step.{Step}
+use Rattle.scripts.specs.declared.steps.Goal.TheVariants as goal
+use Rattle.scripts.specs.declared.steps.Step.TheVariants.{Submit, Await}
 use Rattle.session_law.specs.declared.batches.Entry.{Entry}
 use Rattle.session_law.specs.Histories.{step_at}
-use Rattle.master_run.specs.declared.replaying.Replay.{Replay}
+use Rattle.master_run.specs.declared.replays.Replay.{Replay}
 use Rattle.master_run.specs.declared.waitings.Waiting.{Waiting}
 use Rattle.master_run.specs.Books.{Chronicle, added, first_book}
 use Rattle.master_run.specs.Tellings.{batch_told, told_all}

@@ -3,9 +3,9 @@
 -- Elasticsearch's rules (`MasterService`); that of equally urgent queues the one with the earliest entry comes first is
 -- this project's own.
 use Rattle.std.specs.Prelude.{ℕ, Bool, not, ◌==◌, List, [], ◌∷◌, map, filter, Option, Some, None, nat_lt, slice_get, if◌then◌else◌}
-use Rattle.executors.specs.declared.queues.Priority.{Priority}
-use Rattle.executors.specs.declared.queues.Priority.TheVariants.{Immediate, Urgent, High, Normal, Low, Languid}
-use Rattle.executors.specs.declared.queues.QueueSpec.{QueueSpec}
+use Rattle.scripts.specs.declared.queues.Priority.{Priority}
+use Rattle.scripts.specs.declared.queues.Priority.TheVariants.{Immediate, Urgent, High, Normal, Low, Languid}
+use Rattle.scripts.specs.declared.queues.QueueSpec.{QueueSpec}
 use Rattle.session_law.specs.declared.batches.Entry.{Entry}
 use Rattle.master_run.specs.declared.waitings.Waiting.{Waiting}
 

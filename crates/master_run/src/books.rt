@@ -1,15 +1,16 @@
 ghost use Rattle.std.specs.Prelude.{◌≡◌, ◌<◌, ◌^◌, IfOk, OnOk, length};
-ghost use Rattle.executors.specs.Scripts.{IsScript};
+ghost use Rattle.scripts.specs.Scripts.{IsScript};
 ghost use Rattle.std.specs.Option.{option_copied};
 ghost use Rattle.session_law.specs.Histories.{task_at, tasks_at};
 ghost use Rattle.master_run.specs.Books.{IsKeptBook, added, first_book};
 
-use crate::batching::run_batch;
-use crate::opening::open_world;
-use executors::{QueueSpec, Script, Step, Task, TaskEnd};
+use crate::batch_runs::run_batch;
+use crate::first_worlds::open_world;
+use executors::Task;
+use scripts::{QueueSpec, Script, Step};
+use session_law::{Batch, Entry, TaskEnd, World};
 use meta_state::ClusterState;
 use plain_data::{Items, OutOfMemory};
-use session_law::{Batch, Entry, World};
 use std::alloc::Global;
 use std::marker::Model;
 

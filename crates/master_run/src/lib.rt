@@ -2,16 +2,14 @@
 //! one thread.
 #![tactic(auto)]
 
-mod batching;
+mod batch_runs;
 mod books;
-mod opening;
-mod publishing;
-mod replaying;
-mod serials;
+mod first_worlds;
+mod publications;
+mod replays;
+mod serial_core;
 mod tellings;
 mod waitings;
 
 pub use books::{Book, BookEnd};
-pub use script_form::{LimitName, Rule, ScriptRefusal, read_script};
-pub use serials::SerialCore;
-pub use session_law::{Session, report_text};
+pub use serial_core::SerialCore;

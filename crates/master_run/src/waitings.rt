@@ -1,7 +1,7 @@
 ghost use Rattle.std.specs.Prelude.{◌≡◌, IfOk};
 ghost use Rattle.master_run.specs.Waitings.{entries_of, left_by, next_queue, rank_at, rank_of, sooner, taken_from};
 
-use executors::{Priority, QueueSpec};
+use scripts::{Priority, QueueSpec};
 use plain_data::{Items, OutOfMemory};
 use session_law::Entry;
 use std::alloc::Global;

@@ -7,9 +7,9 @@ use Rattle.std.proofs.lemmas.Map.Entries.{option_filter}
 use Rattle.plain_data.specs.Pairs.{lookup, with, without, InOrder}
 use Rattle.plain_data.proofs.At.{in_order_empty, in_order_with, in_order_without}
 use Rattle.plain_data.proofs.Lookups.{is_key, same_from_key, differ_from_key, key_from_differ, key_flipped, lookup-with, lookup-without, lookup-without_other, lookup-filtered, in_order_filtered, same_keys}
-use Rattle.meta_state.specs.declared.indices.IndexMetadata.{IndexMetadata}
+use Rattle.meta_state.specs.declared.index_metadata.IndexMetadata.{IndexMetadata}
 use Rattle.meta_state.specs.Aliases.{is_aliased, has_alias, names_with}
-use Rattle.meta_state.specs.Tables.{Names, has, aliases_of, aliases_at, listed, are_listed, holders, IsTable, AgreeBut, entered, relisted, struck, retold, all_entered, all_struck}
+use Rattle.meta_state.specs.Tables.{Names, has, aliases_of, aliases_at, listed, has_names, holders, IsTable, AgreeBut, entered, relisted, struck, retold, all_entered, all_struck}
 
 abbrev Table : Type 0
 Table = List (List ℕ × Names)
@@ -324,16 +324,16 @@ has_any-names_with alias (p ∷ ps) =
       | false ↦ rest
     ]
 
-are_listed-listed : (names : Option Names) → are_listed names ≡ has_any (keys_of (listed names))
-are_listed-listed None = refl
-are_listed-listed (Some []) = refl
-are_listed-listed (Some (p ∷ ps)) = refl
+has_names-listed : (names : Option Names) → has_names names ≡ has_any (keys_of (listed names))
+has_names-listed None = refl
+has_names-listed (Some []) = refl
+has_names-listed (Some (p ∷ ps)) = refl
 
 pub names_from_table : (table : Table) (indices : List (List ℕ × IndexMetadata)) (alias : List ℕ) → IsTable table indices → keys_of (holders alias table) ≡ names_with alias indices
 names_from_table table indices alias t =
     same_keys (holders alias table) (filter (λ p. is_aliased alias p.1) indices) (t.holders_in_order alias) (in_order_filtered (is_aliased alias) indices t.indices_in_order)
     (λ q. t.agrees alias q ∙ (is_some-filtered alias (lookup q indices) ∙ ap is_some (sym (lookup-filtered (is_aliased alias) q indices t.indices_in_order))))
 
-pub alias_from_table : (table : Table) (indices : List (List ℕ × IndexMetadata)) (alias : List ℕ) → IsTable table indices → are_listed (lookup alias table) ≡ has_alias alias indices
+pub alias_from_table : (table : Table) (indices : List (List ℕ × IndexMetadata)) (alias : List ℕ) → IsTable table indices → has_names (lookup alias table) ≡ has_alias alias indices
 alias_from_table table indices alias t =
-    are_listed-listed (lookup alias table) ∙ (ap has_any (names_from_table table indices alias t) ∙ has_any-names_with alias indices)
+    has_names-listed (lookup alias table) ∙ (ap has_any (names_from_table table indices alias t) ∙ has_any-names_with alias indices)

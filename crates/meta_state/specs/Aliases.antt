@@ -2,7 +2,7 @@
 use Rattle.std.specs.Prelude.{ℕ, Bool, List, map, is_some}
 use Rattle.std.specs.List.{filter, list_any}
 use Rattle.plain_data.specs.Pairs.{lookup}
-use Rattle.meta_state.specs.declared.indices.IndexMetadata.{IndexMetadata}
+use Rattle.meta_state.specs.declared.index_metadata.IndexMetadata.{IndexMetadata}
 
 abbrev pub is_aliased : List ℕ → IndexMetadata → Bool
 is_aliased alias index = is_some (lookup alias index.aliases)

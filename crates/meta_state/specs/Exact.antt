@@ -6,10 +6,10 @@ use Rattle.std.specs.Cmp.{IsEquivalence, IsPartialEquivalence, on_equiv, and_equ
 use Rattle.std.specs.Cmp.Lexicographic.{pointwise, bytes_decides}
 use Rattle.std.proofs.lemmas.Bool.Decides.{Decides-and, Decides-like}
 use Rattle.plain_data.specs.Pairs.{pairs_eq, pairs_decides, pairs_equiv, unit_eq, unit_equiv, unit_decides}
-use Rattle.meta_state.specs.declared.nodes.NodeInfo.{NodeInfo}
-use Rattle.meta_state.specs.declared.indices.IndexMetadata.{IndexMetadata}
+use Rattle.meta_state.specs.declared.node_info.NodeInfo.{NodeInfo}
+use Rattle.meta_state.specs.declared.index_metadata.IndexMetadata.{IndexMetadata}
 use Rattle.meta_state.specs.declared.cluster_metadata.Metadata.{Metadata}
-use Rattle.meta_state.specs.declared.states.ClusterState.{ClusterState}
+use Rattle.meta_state.specs.declared.cluster_state.ClusterState.{ClusterState}
 
 abbrev pub node_eq : NodeInfo → NodeInfo → Bool
 node_eq a b = (pointwise ◌==◌ a.name b.name) && (beq a.eligible b.eligible)

@@ -3,10 +3,10 @@ use Rattle.std.specs.Prelude.{ℕ, List, [], ◌∷◌, map, codes}
 use Rattle.serde_json.specs.Data.{Data, boolean, number, string, array, object, unsigned, Members, no_members, member, put}
 use Rattle.serde_json.specs.View.{items_of}
 use Rattle.serde_json.specs.Written.{compact_text}
-use Rattle.meta_state.specs.declared.nodes.NodeInfo.{NodeInfo}
-use Rattle.meta_state.specs.declared.indices.IndexMetadata.{IndexMetadata}
+use Rattle.meta_state.specs.declared.node_info.NodeInfo.{NodeInfo}
+use Rattle.meta_state.specs.declared.index_metadata.IndexMetadata.{IndexMetadata}
 use Rattle.meta_state.specs.declared.cluster_metadata.Metadata.{Metadata}
-use Rattle.meta_state.specs.declared.states.ClusterState.{ClusterState}
+use Rattle.meta_state.specs.declared.cluster_state.ClusterState.{ClusterState}
 
 abbrev pub count : ℕ → Data
 count n = number (unsigned n)

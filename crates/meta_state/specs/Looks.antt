@@ -1,12 +1,12 @@
 -- What a look at a state finds. The looks are this project's own.
 use Rattle.std.specs.Prelude.{ℕ, List, [], ◌∷◌, Option, Some, None}
 use Rattle.plain_data.specs.Pairs.{lookup}
-use Rattle.meta_state.specs.declared.indices.IndexMetadata.{IndexMetadata}
+use Rattle.meta_state.specs.declared.index_metadata.IndexMetadata.{IndexMetadata}
 use Rattle.meta_state.specs.declared.looks.Look.{Look}
 use Rattle.meta_state.specs.declared.looks.Look.TheVariants as look
 use Rattle.meta_state.specs.declared.looks.Found.{Found}
 use Rattle.meta_state.specs.declared.looks.Found.TheVariants as found
-use Rattle.meta_state.specs.declared.states.ClusterState.{ClusterState}
+use Rattle.meta_state.specs.declared.cluster_state.ClusterState.{ClusterState}
 use Rattle.meta_state.specs.Aliases.{names_with}
 
 abbrev pub found_index : Option IndexMetadata → Found

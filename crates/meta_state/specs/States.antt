@@ -2,10 +2,10 @@
 use Rattle.std.specs.Prelude.{ℕ, ◌<◌, ◌^◌, List, [], ◌∷◌}
 use Rattle.std.specs.List.{AllByRecursion}
 use Rattle.plain_data.specs.Pairs.{with}
-use Rattle.meta_state.specs.declared.nodes.NodeInfo.{NodeInfo}
-use Rattle.meta_state.specs.declared.indices.IndexMetadata.{IndexMetadata}
+use Rattle.meta_state.specs.declared.node_info.NodeInfo.{NodeInfo}
+use Rattle.meta_state.specs.declared.index_metadata.IndexMetadata.{IndexMetadata}
 use Rattle.meta_state.specs.declared.cluster_metadata.Metadata.{Metadata}
-use Rattle.meta_state.specs.declared.states.ClusterState.{ClusterState}
+use Rattle.meta_state.specs.declared.cluster_state.ClusterState.{ClusterState}
 
 -- metadata without indices and settings
 abbrev pub no_metadata : ℕ → Metadata

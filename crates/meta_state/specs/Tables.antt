@@ -1,8 +1,8 @@
 -- The table of aliases that stands beside the indices: for each alias the set of the names of the indices that have it.
--- It says nothing that the indices don't say, so that it is no part of what an `Indices` is seen as.
+-- It says nothing that the indices don't say, so that it is no part of what an `IndexTable` is seen as.
 use Rattle.std.specs.Prelude.{◌≡◌, ℕ, Bool, true, false, List, [], ◌∷◌, Some, None, Option, is_some, if◌then◌else◌}
 use Rattle.plain_data.specs.Pairs.{lookup, with, without, InOrder}
-use Rattle.meta_state.specs.declared.indices.IndexMetadata.{IndexMetadata}
+use Rattle.meta_state.specs.declared.index_metadata.IndexMetadata.{IndexMetadata}
 
 -- a set of names, and whether it has one
 abbrev pub Names : Type 0
@@ -25,10 +25,10 @@ listed None = []
 listed (Some names) = names
 
 -- whether a table lists a name under an alias
-abbrev pub are_listed : Option Names → Bool
-are_listed None = false
-are_listed (Some []) = false
-are_listed (Some (p ∷ ps)) = true
+abbrev pub has_names : Option Names → Bool
+has_names None = false
+has_names (Some []) = false
+has_names (Some (p ∷ ps)) = true
 
 abbrev pub holders : List ℕ → List (List ℕ × Names) → Names
 holders alias table = listed (lookup alias table)

@@ -2,7 +2,7 @@
 -- (Elasticsearch's `MasterService`). That "changed" means that contents differ is this project's own.
 use Rattle.std.specs.Prelude.{ℕ, ◌+◌, if◌then◌else◌}
 use Rattle.meta_state.specs.declared.cluster_metadata.Metadata.{Metadata}
-use Rattle.meta_state.specs.declared.states.ClusterState.{ClusterState}
+use Rattle.meta_state.specs.declared.cluster_state.ClusterState.{ClusterState}
 use Rattle.meta_state.specs.declared.versions.Next.{Next}
 use Rattle.meta_state.specs.declared.versions.Next.TheVariants.{Same, Changed}
 use Rattle.meta_state.specs.Exact.{state_eq, metadata_eq}

@@ -2,7 +2,7 @@ ghost use Rattle.std.specs.Prelude.{◌≡◌, IfOk};
 ghost use Rattle.meta_state.specs.Aliases.{has_alias};
 ghost use Rattle.meta_state.specs.Exact.{metadata_decides};
 
-use crate::index_tables::Indices;
+use crate::index_table::IndexTable;
 use plain_data::{Exact, Map, OutOfMemory, Text};
 use std::alloc::Global;
 
@@ -19,7 +19,7 @@ pub struct Metadata {
     pub settings: Map<Text>,
 
     /// The indices, by name.
-    pub indices: Indices,
+    pub indices: IndexTable,
 }
 
 impl Metadata {

@@ -3,28 +3,25 @@
 #![tactic(auto)]
 
 mod cluster_metadata;
-mod index_tables;
-mod indices;
+mod cluster_state;
+mod index_metadata;
+mod index_names;
+mod index_table;
 mod looks;
-mod naming;
-mod nodes;
+mod node_info;
 mod predicates;
-mod spelling;
-mod states;
+mod states_as_json;
 mod versions;
-mod watches;
+mod watch_id;
 
 pub use cluster_metadata::Metadata;
-pub use index_tables::Indices;
-pub use indices::IndexMetadata;
+pub use cluster_state::ClusterState;
+pub use index_metadata::IndexMetadata;
+pub use index_names::{InvalidName, check_index_name};
+pub use index_table::IndexTable;
 pub use looks::{Found, Look, lookup};
-pub use naming::{InvalidName, check_index_name};
-pub use nodes::NodeInfo;
+pub use node_info::NodeInfo;
 pub use predicates::Pred;
-pub use spelling::to_json;
-pub use states::ClusterState;
+pub use states_as_json::to_json;
 pub use versions::{Next, next_state};
-pub use watches::WatchId;
-
-#[cfg(test)]
-mod tests;
+pub use watch_id::WatchId;

@@ -2,8 +2,8 @@ ghost use Rattle.std.specs.Prelude.{◌≡◌, IfOk};
 ghost use Rattle.std.specs.Option.{option_copied};
 ghost use Rattle.meta_state.specs.Looks.{found_at, found_index, found_names, found_value};
 
-use crate::indices::IndexMetadata;
-use crate::states::ClusterState;
+use crate::cluster_state::ClusterState;
+use crate::index_metadata::IndexMetadata;
 use plain_data::{Items, OutOfMemory, Text};
 use std::alloc::Global;
 

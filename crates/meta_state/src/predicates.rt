@@ -3,7 +3,7 @@ ghost use Rattle.std.specs.List.{list_all, list_any};
 ghost use Rattle.plain_data.specs.Pairs.{lookup};
 ghost use Rattle.meta_state.specs.Predicates.{is_met, is_value};
 
-use crate::states::ClusterState;
+use crate::cluster_state::ClusterState;
 use plain_data::{Boxed, Items, Text};
 
 /// What a watch waits for: a test of a cluster state.

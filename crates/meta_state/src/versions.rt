@@ -4,7 +4,7 @@ ghost use Rattle.meta_state.specs.States.{IsRoomy};
 ghost use Rattle.meta_state.specs.Versions.{next_of, content_of, contents_of};
 
 use crate::cluster_metadata::Metadata;
-use crate::states::ClusterState;
+use crate::cluster_state::ClusterState;
 
 /// What an executor's result makes of the state before it.
 #[derive(Debug, Drop)]

@@ -4,18 +4,18 @@ use Rattle.std.proofs.lemmas.Grind.{common_steps}
 use Rattle.std.specs.Prelude.{Bool, ◌&&◌, slice_get, Option}
 use Rattle.std.specs.List.{list_all}
 use Rattle.std.proofs.lemmas.Bool.{and_parts}
-use Rattle.executors.specs.declared.faults.Fault.{Fault}
+use Rattle.scripts.specs.declared.faults.Fault.{Fault}
 use Rattle.executors.specs.declared.kinds.Kind.{Kind}
 use Rattle.executors.specs.declared.kinds.Kind.TheVariants as kind
-use Rattle.executors.specs.declared.queues.QueueSpec.{QueueSpec}
-use Rattle.executors.specs.declared.scripts.Script.{Script}
-use Rattle.executors.specs.declared.scripts.ScriptTurn.{ScriptTurn}
-use Rattle.executors.specs.declared.scripts.ScriptTurn.TheVariants as turn
-use Rattle.executors.specs.declared.steps.Step.{Step}
-use Rattle.executors.specs.declared.steps.Step.TheVariants as step
+use Rattle.scripts.specs.declared.queues.QueueSpec.{QueueSpec}
+use Rattle.scripts.specs.declared.whole_script.Script.{Script}
+use Rattle.scripts.specs.declared.whole_script.ScriptTurn.{ScriptTurn}
+use Rattle.scripts.specs.declared.whole_script.ScriptTurn.TheVariants as turn
+use Rattle.scripts.specs.declared.steps.Step.{Step}
+use Rattle.scripts.specs.declared.steps.Step.TheVariants as step
 use Rattle.executors.specs.declared.tasks.Task.{Task}
 use Rattle.executors.specs.declared.tasks.Task.TheVariants as task
-use Rattle.executors.specs.Scripts.{is_ack, is_if_some, is_timeout, are_steps, is_client, is_fault, is_queue_for, is_step, is_task_for, is_turn}
+use Rattle.scripts.specs.Scripts.{is_ack, is_if_some, is_positive_time, are_steps, is_client, is_fault, is_queue_for, is_step, is_task_for, is_turn}
 
 pub and_both : {a b : Bool} → a ≡ true → b ≡ true → (a && b) ≡ true
 and_both first second = grind (arith, common_steps)
@@ -41,7 +41,7 @@ step_for : (s t : Script) → s.nodes ≡ t.nodes → s.queues ≡ t.queues → 
 step_for s t nodes queues before (step.Submit queue made timeout ack) valid =
     let parts = and_parts _ _ valid in
     let taken : is_queue_for t made (slice_get t.queues queue) ≡ true = rw (sym queues) (queue_for s t nodes made (slice_get s.queues queue) parts.0) in
-    let asked : (is_if_some is_timeout timeout && is_if_some (is_ack t) ack) ≡ true = rw (sym nodes) parts.1 in
+    let asked : (is_if_some is_positive_time timeout && is_if_some (is_ack t) ack) ≡ true = rw (sym nodes) parts.1 in
     and_both taken asked
 step_for s t nodes queues before (step.Await earlier goal) valid = valid
 step_for s t nodes queues before (step.Watch node pred thens timeout) valid = rw (sym nodes) valid

@@ -4,9 +4,9 @@ use Rattle.std.specs.Prelude.{Bool, not, ◌&&◌, ◌||◌, count_by, flat_map}
 use Rattle.std.specs.List.{list_any}
 use Rattle.std.proofs.lemmas.Bool.{and_parts}
 use Rattle.std.proofs.lemmas.Grind.{common_steps}
-use Rattle.executors.specs.declared.scripts.Script.{Script}
-use Rattle.executors.specs.declared.steps.Step.{Step}
-use Rattle.executors.specs.Scripts.{are_steps, is_close, is_step}
+use Rattle.scripts.specs.declared.whole_script.Script.{Script}
+use Rattle.scripts.specs.declared.steps.Step.{Step}
+use Rattle.scripts.specs.Scripts.{are_steps, is_close, is_step}
 use Rattle.script_form.specs.Clients.{IsClosedOnce, closes, do_close, one_if_so}
 use Rattle.script_form.proofs.Casts.{and_both}
 

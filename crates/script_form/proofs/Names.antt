@@ -6,8 +6,8 @@ use Rattle.std.specs.Bool.{beq}
 use Rattle.std.specs.Cmp.Lexicographic.{nat_list_eq_equiv}
 use Rattle.std.proofs.lemmas.Grind.{common_steps}
 use Rattle.std.proofs.lemmas.List.Folds.{list_all-append}
-use Rattle.executors.specs.declared.scripts.ScriptNode.{ScriptNode}
-use Rattle.executors.specs.Scripts.{are_asked, are_distinct, has_master, is_node, is_node_so}
+use Rattle.scripts.specs.declared.whole_script.ScriptNode.{ScriptNode}
+use Rattle.scripts.specs.Scripts.{are_asked, are_distinct, has_master, is_node, is_node_so}
 use Rattle.script_form.specs.Casts.{cast}
 use Rattle.script_form.specs.Naming.{AreNamed, IsNewTo}
 use Rattle.script_form.specs.Nodes.{find_node, is_fit_first, is_led}

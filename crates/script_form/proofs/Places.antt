@@ -3,8 +3,8 @@ use Rattle.std.proofs.Common.{◌≡◌, true, false, List, [], ◌∷◌, ◌++
 use Rattle.std.specs.List.{list_any}
 use Rattle.std.specs.Cmp.Lexicographic.{nat_list_eq_equiv}
 use Rattle.std.proofs.lemmas.Grind.{common_steps}
-use Rattle.executors.specs.declared.faults.Fault.{Fault}
-use Rattle.executors.specs.Scripts.{are_faults_distinct}
+use Rattle.scripts.specs.declared.faults.Fault.{Fault}
+use Rattle.scripts.specs.Scripts.{are_faults_distinct}
 use Rattle.script_form.specs.Faults.{is_same_place}
 
 same_place_symm : (a b : Fault) → is_same_place a b ≡ is_same_place b a

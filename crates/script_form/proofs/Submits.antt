@@ -3,13 +3,13 @@ use Rattle.std.proofs.Common.{◌≡◌, ℕ, true, List, [], Some, None, refl, 
 use Rattle.std.specs.Prelude.{slice_get, Option, option_map}
 use Rattle.std.proofs.lemmas.Grind.{common_steps}
 use Rattle.executors.specs.declared.kinds.Kind.{Kind}
-use Rattle.executors.specs.declared.queues.QueueSpec.{QueueSpec}
-use Rattle.executors.specs.declared.scripts.Script.{Script}
-use Rattle.executors.specs.declared.scripts.ScriptNode.{ScriptNode}
-use Rattle.executors.specs.declared.steps.Ack.{Ack}
-use Rattle.executors.specs.declared.steps.Step.TheVariants as step
+use Rattle.scripts.specs.declared.queues.QueueSpec.{QueueSpec}
+use Rattle.scripts.specs.declared.whole_script.Script.{Script}
+use Rattle.scripts.specs.declared.whole_script.ScriptNode.{ScriptNode}
+use Rattle.scripts.specs.declared.steps.Ack.{Ack}
+use Rattle.scripts.specs.declared.steps.Step.TheVariants as step
 use Rattle.executors.specs.declared.tasks.Task.{Task}
-use Rattle.executors.specs.Scripts.{is_ack, is_if_some, is_queue_for, is_step, is_task_for, is_time, is_timeout}
+use Rattle.scripts.specs.Scripts.{is_ack, is_if_some, is_queue_for, is_step, is_task_for, is_time, is_positive_time}
 use Rattle.script_form.specs.Casts.{cast}
 use Rattle.script_form.specs.Queues.{kind_at}
 use Rattle.script_form.specs.Steps.{none_if_zero}
@@ -19,7 +19,7 @@ queue_at : (script : Script) (made : Task) (executor : Kind) (queue : Option Que
 queue_at script made executor None there valid = absurd cc
 queue_at script made executor (Some queue) there valid = grind (arith, common_steps)
 
-timeout_valid : (ms : ℕ) → is_time ms ≡ true → is_if_some is_timeout (none_if_zero ms) ≡ true
+timeout_valid : (ms : ℕ) → is_time ms ≡ true → is_if_some is_positive_time (none_if_zero ms) ≡ true
 timeout_valid ms valid = grind (arith, common_steps)
 
 pub is_submit_valid : (nodes : List ScriptNode) (queues : List QueueSpec) (queue : ℕ) (executor : Kind) (made : Task) (ms : ℕ) (ack : Option Ack)

@@ -4,9 +4,9 @@ use Rattle.std.specs.Prelude.{Bool, count_by, flat_map, nat_le}
 use Rattle.std.specs.List.{list_all}
 use Rattle.std.proofs.lemmas.Bool.{and_parts}
 use Rattle.std.proofs.lemmas.Grind.{common_steps}
-use Rattle.executors.specs.declared.scripts.Script.{Script}
-use Rattle.executors.specs.declared.steps.Step.{Step}
-use Rattle.executors.specs.Scripts.{is_client}
+use Rattle.scripts.specs.declared.whole_script.Script.{Script}
+use Rattle.scripts.specs.declared.steps.Step.{Step}
+use Rattle.scripts.specs.Scripts.{is_client}
 use Rattle.script_form.proofs.Casts.{and_both}
 
 count_append : (test : Step → Bool) (steps more : List Step) → count_by test (steps ++ more) ≡ count_by test steps + count_by test more

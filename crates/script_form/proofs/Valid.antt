@@ -3,8 +3,8 @@ use Rattle.std.proofs.Common.{◌≡◌, ℕ, ◌≤◌, ◌*◌, [], true, leng
 use Rattle.std.specs.Prelude.{nat_le}
 use Rattle.std.proofs.lemmas.Bool.{and_parts}
 use Rattle.std.proofs.lemmas.Grind.{common_steps}
-use Rattle.executors.specs.declared.scripts.Script.{Script}
-use Rattle.executors.specs.Scripts.{IsScript, alias_reads, submits}
+use Rattle.scripts.specs.declared.whole_script.Script.{Script}
+use Rattle.scripts.specs.Scripts.{IsScript, alias_reads, submits}
 use Rattle.script_form.specs.Casts.{cast}
 use Rattle.script_form.specs.Reading.{AreParts, is_workable}
 use Rattle.script_form.proofs.Casts.{clients_for, faults_for, turns_for}

@@ -3,10 +3,10 @@
 use Rattle.std.specs.Prelude.{ℕ, ◌+◌, ◌≤◌, Bool, ◌&&◌, ◌||◌, List, [], Result, Ok, count_by, flat_map, if◌then◌else◌}
 use Rattle.std.specs.List.{list_any}
 use Rattle.serde_json.specs.Data.{Data}
-use Rattle.executors.specs.declared.queues.QueueSpec.{QueueSpec}
-use Rattle.executors.specs.declared.scripts.ScriptNode.{ScriptNode}
-use Rattle.executors.specs.declared.steps.Step.{Step}
-use Rattle.executors.specs.Scripts.{is_close}
+use Rattle.scripts.specs.declared.queues.QueueSpec.{QueueSpec}
+use Rattle.scripts.specs.declared.whole_script.ScriptNode.{ScriptNode}
+use Rattle.scripts.specs.declared.steps.Step.{Step}
+use Rattle.scripts.specs.Scripts.{is_close}
 use Rattle.script_form.specs.declared.limits.LimitName.TheVariants.{Steps, Clients}
 use Rattle.script_form.specs.declared.misfits.Misfit.{Misfit}
 use Rattle.script_form.specs.declared.rules.Rule.TheVariants.{Close}

@@ -3,11 +3,11 @@
 use Rattle.std.specs.Prelude.{◌≡◌, ℕ, ◌==◌, Bool, false, ◌&&◌, List, [], ◌∷◌, Some, None, Option, Result, Ok, codes, bytes_eq, if◌then◌else◌, IsTrue}
 use Rattle.std.specs.List.{list_any}
 use Rattle.serde_json.specs.Data.{Data}
-use Rattle.executors.specs.declared.faults.Fault.{Fault}
-use Rattle.executors.specs.declared.faults.FaultKind.{FaultKind}
-use Rattle.executors.specs.declared.faults.FaultKind.TheVariants as fault_kind
-use Rattle.executors.specs.declared.scripts.ScriptNode.{ScriptNode}
-use Rattle.executors.specs.Scripts.{is_fault, is_master}
+use Rattle.scripts.specs.declared.faults.Fault.{Fault}
+use Rattle.scripts.specs.declared.faults.FaultKind.{FaultKind}
+use Rattle.scripts.specs.declared.faults.FaultKind.TheVariants as fault_kind
+use Rattle.scripts.specs.declared.whole_script.ScriptNode.{ScriptNode}
+use Rattle.scripts.specs.Scripts.{is_fault, is_master}
 use Rattle.script_form.specs.Casts.{cast}
 use Rattle.script_form.specs.declared.limits.LimitName.TheVariants.{Faults}
 use Rattle.script_form.specs.declared.misfits.Misfit.{Misfit}

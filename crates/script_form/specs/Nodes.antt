@@ -3,8 +3,8 @@
 use Rattle.std.specs.Prelude.{ℕ, ◌≤◌, Bool, true, ◌&&◌, List, [], ◌∷◌, Some, None, Option, Result, Ok, codes, bytes_eq, length, if◌then◌else◌, IsTrue}
 use Rattle.std.specs.List.{list_any}
 use Rattle.serde_json.specs.Data.{Data}
-use Rattle.executors.specs.declared.scripts.ScriptNode.{ScriptNode}
-use Rattle.executors.specs.Scripts.{has_master}
+use Rattle.scripts.specs.declared.whole_script.ScriptNode.{ScriptNode}
+use Rattle.scripts.specs.Scripts.{has_master}
 use Rattle.script_form.specs.Naming.{AreNamed}
 use Rattle.script_form.specs.declared.limits.LimitName.TheVariants.{Nodes}
 use Rattle.script_form.specs.declared.misfits.Misfit.{Misfit}

@@ -6,7 +6,7 @@ use Rattle.std.specs.Str.{is_utf8}
 use Rattle.serde_json.specs.Data.{Data, Items, no_items, item, Members, no_members, member}
 use Rattle.serde_json.specs.Find.{get, as_bool, as_str, as_array, as_object, as_number, as_u64}
 use Rattle.serde_json.specs.Read.{read}
-use Rattle.executors.specs.Scripts.{is_name, is_time, is_timeout}
+use Rattle.scripts.specs.Scripts.{is_name, is_time, is_positive_time}
 use Rattle.script_form.specs.declared.limits.LimitName.{LimitName}
 use Rattle.script_form.specs.declared.misfits.Misfit.{Misfit}
 use Rattle.script_form.specs.declared.rules.Rule.TheVariants.{WrongType, Unknown, Missing, Range, Name, Value}
@@ -108,7 +108,7 @@ time_of d = whole_of d >>= if_so Range is_time
 
 -- a whole number from 1 to 4,294,967,295
 abbrev pub positive_of : Data → Result ℕ Misfit
-positive_of d = whole_of d >>= if_so Range is_timeout
+positive_of d = whole_of d >>= if_so Range is_positive_time
 
 -- a name: 1 to 64 bytes of a to z, 0 to 9, _ and -, beginning with a letter or a digit
 abbrev pub name_of : Data → Result (List ℕ) Misfit

@@ -5,9 +5,9 @@ use Rattle.std.specs.List.{list_any}
 use Rattle.serde_json.specs.Data.{Data}
 use Rattle.executors.specs.declared.kinds.Kind.{Kind}
 use Rattle.executors.specs.declared.kinds.Kind.TheVariants as kind
-use Rattle.executors.specs.declared.queues.Priority.{Priority}
-use Rattle.executors.specs.declared.queues.Priority.TheVariants as priority
-use Rattle.executors.specs.declared.queues.QueueSpec.{QueueSpec}
+use Rattle.scripts.specs.declared.queues.Priority.{Priority}
+use Rattle.scripts.specs.declared.queues.Priority.TheVariants as priority
+use Rattle.scripts.specs.declared.queues.QueueSpec.{QueueSpec}
 use Rattle.script_form.specs.declared.limits.LimitName.TheVariants.{Queues}
 use Rattle.script_form.specs.declared.misfits.Misfit.{Misfit}
 use Rattle.script_form.specs.declared.rules.Rule.TheVariants.{Twice, Reference}

@@ -2,9 +2,9 @@
 use Rattle.std.specs.Prelude.{◌≡◌, ℕ, ◌*◌, ◌≤◌, ◌==◌, Bool, ◌&&◌, List, [], ◌∷◌, Some, None, Option, Result, Ok, Err, codes, length, nat_le, if◌then◌else◌, IsTrue}
 use Rattle.std.specs.List.{list_all}
 use Rattle.serde_json.specs.Data.{Data}
-use Rattle.executors.specs.declared.scripts.Script.{Script}
-use Rattle.script_form.specs.Built.{is_built}
-use Rattle.executors.specs.Scripts.{alias_reads, are_faults_distinct, is_client, is_fault, is_name, is_turn, submits}
+use Rattle.scripts.specs.declared.whole_script.Script.{Script}
+use Rattle.scripts.specs.Built.{is_built}
+use Rattle.scripts.specs.Scripts.{alias_reads, are_faults_distinct, is_client, is_fault, is_name, is_turn, submits}
 use Rattle.script_form.specs.Casts.{cast}
 use Rattle.script_form.specs.declared.limits.LimitName.TheVariants.{Work}
 use Rattle.script_form.specs.declared.misfits.Misfit.{Misfit}

@@ -6,14 +6,14 @@ use Rattle.serde_json.specs.Data.{Data, Items}
 use Rattle.serde_json.specs.Find.{get, as_str, as_array}
 use Rattle.meta_state.specs.declared.looks.Look.{Look}
 use Rattle.meta_state.specs.declared.looks.Look.TheVariants as look
-use Rattle.executors.specs.declared.queues.QueueSpec.{QueueSpec}
-use Rattle.executors.specs.declared.scripts.ScriptNode.{ScriptNode}
-use Rattle.executors.specs.declared.steps.Ack.{Ack}
-use Rattle.executors.specs.declared.steps.Goal.{Goal}
-use Rattle.executors.specs.declared.steps.Goal.TheVariants as goal
-use Rattle.executors.specs.declared.steps.Step.{Step}
-use Rattle.executors.specs.declared.steps.Step.TheVariants as step
-use Rattle.executors.specs.Scripts.{is_goal, is_node}
+use Rattle.scripts.specs.declared.queues.QueueSpec.{QueueSpec}
+use Rattle.scripts.specs.declared.whole_script.ScriptNode.{ScriptNode}
+use Rattle.scripts.specs.declared.steps.Ack.{Ack}
+use Rattle.scripts.specs.declared.steps.Goal.{Goal}
+use Rattle.scripts.specs.declared.steps.Goal.TheVariants as goal
+use Rattle.scripts.specs.declared.steps.Step.{Step}
+use Rattle.scripts.specs.declared.steps.Step.TheVariants as step
+use Rattle.scripts.specs.Scripts.{is_goal, is_node}
 use Rattle.script_form.specs.Casts.{cast}
 use Rattle.script_form.specs.declared.misfits.Misfit.{Misfit}
 use Rattle.script_form.specs.declared.rules.Rule.TheVariants.{WrongType, Missing, Value, Reference, Twice}

@@ -3,10 +3,10 @@
 use Rattle.std.specs.Prelude.{ℕ, ◌+◌, ◌-◌, ◌*◌, ◌==◌, Bool, false, not, ◌&&◌, List, [], ◌∷◌, Some, None, Option, Result, Ok, min, fold, nat_lt, if◌then◌else◌}
 use Rattle.std.specs.List.{list_all}
 use Rattle.serde_json.specs.Data.{Data}
-use Rattle.executors.specs.declared.scripts.ScriptNode.{ScriptNode}
-use Rattle.executors.specs.declared.scripts.ScriptTurn.{ScriptTurn}
-use Rattle.executors.specs.declared.scripts.ScriptTurn.TheVariants as turn
-use Rattle.executors.specs.Scripts.{is_between}
+use Rattle.scripts.specs.declared.whole_script.ScriptNode.{ScriptNode}
+use Rattle.scripts.specs.declared.whole_script.ScriptTurn.{ScriptTurn}
+use Rattle.scripts.specs.declared.whole_script.ScriptTurn.TheVariants as turn
+use Rattle.scripts.specs.Scripts.{is_between}
 use Rattle.script_form.specs.declared.limits.LimitName.TheVariants.{Schedule}
 use Rattle.script_form.specs.declared.misfits.Misfit.{Misfit}
 use Rattle.script_form.specs.declared.rules.Rule.TheVariants.{Value, Reference}

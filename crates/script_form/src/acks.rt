@@ -1,7 +1,7 @@
 ghost use Rattle.std.specs.Prelude.{◌≡◌, [], IfOk, IsTrue, None, bytes_eq, codes, length, map};
 ghost use Rattle.std.specs.List.{list_any};
 ghost use Rattle.serde_json.specs.View.{view};
-ghost use Rattle.executors.specs.Scripts.{are_asked, is_ack, is_if_some, is_time};
+ghost use Rattle.scripts.specs.Scripts.{are_asked, is_ack, is_if_some, is_time};
 ghost use Rattle.script_form.specs.Casts.{cast};
 ghost use Rattle.script_form.specs.Misfits.{Reads, at_place, within};
 ghost use Rattle.script_form.specs.Parts.{each, optional};
@@ -11,8 +11,8 @@ use crate::misfits::{Misfit, against, in_member, in_place};
 use crate::nodes::node_named_in;
 use crate::parts::{check_members, member, time_in, values_of};
 use crate::rules::Rule;
-use executors::{Ack, ScriptNode};
 use plain_data::{Items, Text};
+use scripts::{Ack, ScriptNode};
 use serde_json::Value;
 use std::alloc::Global;
 

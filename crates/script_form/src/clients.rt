@@ -1,7 +1,7 @@
 ghost use Rattle.std.specs.Prelude.{◌≡◌, ◌≤◌, ◌<◌, ◌&&◌, [], IfOk, IsTrue, length, map, not};
 ghost use Rattle.std.specs.List.{list_all, list_any};
 ghost use Rattle.serde_json.specs.View.{view};
-ghost use Rattle.executors.specs.Scripts.{are_steps, is_client, is_close, is_step};
+ghost use Rattle.scripts.specs.Scripts.{are_steps, is_client, is_close, is_step};
 ghost use Rattle.script_form.specs.Casts.{cast};
 ghost use Rattle.script_form.specs.Clients.{IsClosedOnce, clients_of, closes, next_client, next_step, step_unless_closed, steps_of};
 ghost use Rattle.script_form.specs.Misfits.{Reads, at_place, within};
@@ -12,8 +12,8 @@ use crate::misfits::{Misfit, against, in_place};
 use crate::parts::values_up_to;
 use crate::rules::Rule;
 use crate::steps::step_in;
-use executors::{QueueSpec, ScriptNode, Step};
 use plain_data::Items;
+use scripts::{QueueSpec, ScriptNode, Step};
 use serde_json::Value;
 use std::alloc::Global;
 

@@ -1,7 +1,7 @@
 ghost use Rattle.std.specs.Prelude.{◌≡◌, ◌≤◌, [], IfOk, IsTrue, false, length, map};
 ghost use Rattle.std.specs.List.{list_all, list_any};
 ghost use Rattle.serde_json.specs.View.{view};
-ghost use Rattle.executors.specs.Scripts.{are_faults_distinct, is_fault, is_master, is_node};
+ghost use Rattle.scripts.specs.Scripts.{are_faults_distinct, is_fault, is_master, is_node};
 ghost use Rattle.script_form.specs.Casts.{cast};
 ghost use Rattle.script_form.specs.Faults.{IsNewFault, fault_named, fault_of, faults_of, follower_of, is_same_place, next_fault};
 ghost use Rattle.script_form.specs.Misfits.{Reads, at_place, within};
@@ -12,8 +12,8 @@ use crate::misfits::{Misfit, against, in_member, in_place};
 use crate::nodes::node_named_in;
 use crate::parts::{check_members, member, positive_in, text_in, values_up_to};
 use crate::rules::Rule;
-use executors::{Fault, FaultKind, ScriptNode};
 use plain_data::{Items, Text};
+use scripts::{Fault, FaultKind, ScriptNode};
 use serde_json::Value;
 use std::alloc::Global;
 

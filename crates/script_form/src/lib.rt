@@ -2,7 +2,7 @@
 #![tactic(auto)]
 
 mod acks;
-mod building;
+mod built;
 mod clients;
 mod faults;
 mod limits;
@@ -17,7 +17,7 @@ mod rules;
 mod steps;
 mod tasks;
 mod turns;
-mod working;
+mod works;
 
 pub use limits::LimitName;
 pub use reading::read_script;

@@ -1,7 +1,7 @@
 ghost use Rattle.std.specs.Prelude.{◌≡◌, ◌≤◌, [], IfOk, IsTrue, length, map};
 ghost use Rattle.std.specs.Option.{option_copied};
 ghost use Rattle.serde_json.specs.View.{view};
-ghost use Rattle.executors.specs.Scripts.{is_name, is_node, is_node_so};
+ghost use Rattle.scripts.specs.Scripts.{is_name, is_node, is_node_so};
 ghost use Rattle.script_form.specs.Casts.{cast};
 ghost use Rattle.script_form.specs.Misfits.{Reads, at_place, within};
 ghost use Rattle.script_form.specs.Naming.{AreNamed, IsNewTo};
@@ -12,8 +12,8 @@ use crate::limits::LimitName;
 use crate::misfits::{Misfit, against, in_member, in_place};
 use crate::parts::{check_members, flag_or, member, name_in, text_in, values_up_to};
 use crate::rules::Rule;
-use executors::ScriptNode;
 use plain_data::Items;
+use scripts::ScriptNode;
 use serde_json::Value;
 use std::alloc::Global;
 

@@ -1,7 +1,7 @@
 ghost use Rattle.std.specs.Prelude.{◌≡◌, ◌≤◌, IfOk, IsTrue, bytes_eq, length, map, option_map};
 ghost use Rattle.std.specs.List.{list_any};
 ghost use Rattle.serde_json.specs.View.{view, members_view};
-ghost use Rattle.executors.specs.Scripts.{is_name, is_time, is_timeout};
+ghost use Rattle.scripts.specs.Scripts.{is_name, is_time, is_positive_time};
 ghost use Rattle.script_form.specs.Misfits.{Reads};
 ghost use Rattle.script_form.specs.Parts.{are_known, data_of, flag_of, list_of, member_of, name_of, object_of, optional, required, short_list, text_of, time_of, positive_of, whole_of};
 ghost use Rattle.script_form.specs.Parts as spec;
@@ -9,8 +9,8 @@ ghost use Rattle.script_form.specs.Parts as spec;
 use crate::limits::LimitName;
 use crate::misfits::{Misfit, against, in_member, too_many};
 use crate::rules::Rule;
-use executors::is_a_name;
 use plain_data::{OutOfMemory, Text};
+use scripts::is_a_name;
 use serde_json::{Map, Value};
 use std::alloc::Global;
 use std::str;
@@ -172,7 +172,7 @@ pub(crate) fn time_in(alloc: Global, value: &Value) -> Result<u64, Misfit>
 /// A whole number from 1 to 4,294,967,295.
 pub(crate) fn positive_in(alloc: Global, value: &Value) -> Result<u64, Misfit>
     ensures exact { Reads (λ n. n) result (positive_of (view value.now)) }
-    ensures valid { IfOk result (λ ms. IsTrue (is_timeout ms)) }
+    ensures valid { IfOk result (λ ms. IsTrue (is_positive_time ms)) }
 {
     let ms = whole_in(alloc, value)?;
     if 1 <= ms && ms <= LONGEST {

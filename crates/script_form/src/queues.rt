@@ -1,18 +1,19 @@
 ghost use Rattle.std.specs.Prelude.{◌≡◌, ◌≤◌, [], IfOk, IfSome, IsTrue, Some, codes, length, map};
 ghost use Rattle.serde_json.specs.View.{view};
-ghost use Rattle.executors.specs.Scripts.{is_name};
+ghost use Rattle.scripts.specs.Scripts.{is_name};
 ghost use Rattle.script_form.specs.Misfits.{Reads, at_place, within};
 ghost use Rattle.script_form.specs.Naming.{AreNamed, IsNewTo};
 ghost use Rattle.script_form.specs.Parts.{each, optional, word_of};
 ghost use Rattle.script_form.specs.Queues.{find_queue, fit_queue, is_queue_name, kind_at, kind_named, next_queue, priority_named, queue_name, queue_named, queue_of, queues_of};
-ghost use Rattle.executors.specs.declared.queues.Priority.TheVariants.{Normal};
+ghost use Rattle.scripts.specs.declared.queues.Priority.TheVariants.{Normal};
 
 use crate::limits::LimitName;
 use crate::misfits::{Misfit, against, in_member, in_place};
 use crate::parts::{check_members, member, name_in, text_in, values_up_to};
 use crate::rules::Rule;
-use executors::{Kind, Priority, QueueSpec};
+use executors::Kind;
 use plain_data::Items;
+use scripts::{Priority, QueueSpec};
 use serde_json::Value;
 use std::alloc::Global;
 

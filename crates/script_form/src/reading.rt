@@ -1,8 +1,8 @@
 ghost use Rattle.std.specs.Prelude.{◌≡◌, ◌≤◌, [], IfOk, IsTrue, codes, length};
 ghost use Rattle.std.specs.List.{list_all};
 ghost use Rattle.serde_json.specs.View.{view};
-ghost use Rattle.executors.specs.Scripts.{IsScript, are_faults_distinct, is_fault, is_turn};
-ghost use Rattle.script_form.specs.Built.{IsBuilt};
+ghost use Rattle.scripts.specs.Scripts.{IsScript, are_faults_distinct, is_fault, is_turn};
+ghost use Rattle.scripts.specs.Built.{IsBuilt};
 ghost use Rattle.script_form.specs.Casts.{cast};
 ghost use Rattle.script_form.specs.Faults.{faults_of};
 ghost use Rattle.script_form.specs.Misfits.{Reads};
@@ -11,7 +11,7 @@ ghost use Rattle.script_form.specs.Reading.{AreParts, Gives, IsRefusal, parts_of
 ghost use Rattle.script_form.specs.Turns.{schedule_of};
 ghost use Rattle.script_form.specs.declared.refusals.ScriptRefusal.TheVariants.{BadShape};
 
-use crate::building::is_all_built;
+use crate::built::is_all_built;
 use crate::clients::clients_in;
 use crate::faults::faults_in;
 use crate::limits::LimitName;
@@ -22,9 +22,9 @@ use crate::queues::queues_in;
 use crate::refusals::ScriptRefusal;
 use crate::rules::Rule;
 use crate::turns::schedule_in;
-use crate::working::is_workable;
-use executors::{Fault, Script, ScriptNode, ScriptTurn, Step};
+use crate::works::is_workable;
 use plain_data::{Items, Text};
+use scripts::{Fault, Script, ScriptNode, ScriptTurn, Step};
 use serde_json::Value;
 use std::alloc::Global;
 

@@ -2,8 +2,8 @@ ghost use Rattle.std.specs.Prelude.{◌≡◌, ◌≤◌, ◌<◌, [], IfOk, IsT
 ghost use Rattle.std.specs.List.{list_all};
 ghost use Rattle.std.specs.Option.{option_copied};
 ghost use Rattle.serde_json.specs.View.{view};
-ghost use Rattle.executors.specs.declared.steps.Goal.TheVariants.{Watch};
-ghost use Rattle.executors.specs.Scripts.{is_goal, is_pred, is_step, is_timeout};
+ghost use Rattle.scripts.specs.declared.steps.Goal.TheVariants.{Watch};
+ghost use Rattle.scripts.specs.Scripts.{is_goal, is_pred, is_step, is_positive_time};
 ghost use Rattle.script_form.specs.Casts.{cast};
 ghost use Rattle.script_form.specs.Misfits.{Reads};
 ghost use Rattle.script_form.specs.Parts.{optional, positive_of, required, word_of};
@@ -21,9 +21,9 @@ use crate::predicates::{outer_pred_in, thens_in};
 use crate::queues::queue_named_in;
 use crate::rules::Rule;
 use crate::tasks::task_in;
-use executors::{Goal, QueueSpec, ScriptNode, Step};
 use meta_state::{Look, Pred};
 use plain_data::Items;
+use scripts::{Goal, QueueSpec, ScriptNode, Step};
 use serde_json::Value;
 use std::alloc::Global;
 
@@ -264,7 +264,7 @@ fn thens_or_none(alloc: Global, value: &Value) -> Result<Items<Pred>, Misfit>
 
 fn positive_at(alloc: Global, value: &Value, key: &str) -> Result<u64, Misfit>
     ensures exact { Reads (λ n. n) result (required key.now positive_of (view value.now)) }
-    ensures valid { IfOk result (λ n. IsTrue (is_timeout n)) }
+    ensures valid { IfOk result (λ n. IsTrue (is_positive_time n)) }
 {
     in_member(alloc, key, positive_in(alloc, member(alloc, value, key)?))
 }

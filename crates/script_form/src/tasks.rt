@@ -1,7 +1,7 @@
 ghost use Rattle.std.specs.Prelude.{◌≡◌, [], IfOk, IsTrue, Ok};
 ghost use Rattle.serde_json.specs.View.{view};
 ghost use Rattle.executors.specs.declared.kinds.Kind.TheVariants as kind;
-ghost use Rattle.executors.specs.Scripts.{is_task_for};
+ghost use Rattle.scripts.specs.Scripts.{is_task_for};
 ghost use Rattle.script_form.specs.Casts.{cast};
 ghost use Rattle.script_form.specs.Misfits.{Reads};
 ghost use Rattle.script_form.specs.Parts.{required, word_of};
@@ -11,9 +11,10 @@ use crate::misfits::{Misfit, against, in_member};
 use crate::nodes::node_named_in;
 use crate::parts::{check_members, flag_in, member, text_at, text_in, whole_at, whole_or};
 use crate::rules::Rule;
-use executors::{Kind, ScriptNode, Task};
+use executors::{Kind, Task};
 use meta_state::NodeInfo;
 use plain_data::Text;
+use scripts::ScriptNode;
 use serde_json::Value;
 use std::alloc::Global;
 

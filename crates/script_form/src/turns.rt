@@ -1,7 +1,7 @@
 ghost use Rattle.std.specs.Prelude.{◌≡◌, ◌≤◌, [], IfOk, IsTrue, length, map};
 ghost use Rattle.std.specs.List.{list_all};
 ghost use Rattle.serde_json.specs.View.{view};
-ghost use Rattle.executors.specs.Scripts.{is_turn};
+ghost use Rattle.scripts.specs.Scripts.{is_turn};
 ghost use Rattle.script_form.specs.Casts.{cast};
 ghost use Rattle.script_form.specs.Misfits.{Reads, at_place, within};
 ghost use Rattle.script_form.specs.Nodes.{find_node};
@@ -13,8 +13,8 @@ use crate::misfits::{Misfit, against, in_place};
 use crate::nodes::find;
 use crate::parts::{text_in, values_up_to};
 use crate::rules::Rule;
-use executors::{ScriptNode, ScriptTurn, Step};
 use plain_data::Items;
+use scripts::{ScriptNode, ScriptTurn, Step};
 use serde_json::Value;
 use std::alloc::Global;
 

@@ -5,17 +5,17 @@ use Rattle.std.proofs.Common.{sym, subst, arith}
 use Rattle.std.specs.List.{AllByRecursion, cons_option}
 use Rattle.std.proofs.lemmas.List.{length-append, length-map}
 use Rattle.plain_data.specs.Pairs.{lookup}
-use Rattle.meta_state.specs.declared.states.ClusterState.{ClusterState}
+use Rattle.meta_state.specs.declared.cluster_state.ClusterState.{ClusterState}
 use Rattle.meta_state.specs.declared.versions.Next.TheVariants.{Same, Changed}
 use Rattle.meta_state.specs.Exact.{state_eq, metadata_eq}
 use Rattle.meta_state.specs.States.{zero_state}
 use Rattle.meta_state.specs.Versions.{content_of, contents_of, metadata_version, stamped}
 use Rattle.executors.specs.declared.contexts.Mark.{Mark}
-use Rattle.executors.specs.declared.executing.Executed.{Executed}
-use Rattle.executors.specs.declared.executing.Executed.TheVariants.{Made, Failed}
+use Rattle.executors.specs.declared.executions.Executed.{Executed}
+use Rattle.executors.specs.declared.executions.Executed.TheVariants.{Made, Failed}
 use Rattle.executors.specs.declared.kinds.Kind.{Kind}
-use Rattle.executors.specs.declared.scripts.Script.{Script}
-use Rattle.executors.specs.declared.scripts.ScriptNode.{ScriptNode}
+use Rattle.scripts.specs.declared.whole_script.Script.{Script}
+use Rattle.scripts.specs.declared.whole_script.ScriptNode.{ScriptNode}
 use Rattle.executors.specs.declared.tasks.Task.{Task}
 use Rattle.executors.specs.Contexts.{numbered}
 use Rattle.executors.specs.Executions.{executed}
@@ -26,9 +26,9 @@ use Rattle.session_law.specs.declared.worlds.NodeWorld.{NodeWorld}
 use Rattle.session_law.specs.declared.worlds.Reach.{Reach}
 use Rattle.session_law.specs.declared.worlds.Stepped.{Stepped}
 use Rattle.session_law.specs.declared.worlds.World.{World}
-use Rattle.session_law.specs.Histories.{after, tasks_at, task_at, kind_named, commit_of, world_after, placed_of, placed_in, Placed}
+use Rattle.session_law.specs.Histories.{after, tasks_at, task_at, kind_named, commit_of, world_after, queued_of, queued_in, Queued}
 use Rattle.session_law.specs.Publications.{cut_by, reach_all, reach_more, reach_none, passed_over, missed, reached, is_sent_diff, does_commit}
-use Rattle.session_law.specs.Steps.{batch_step, executed_step, next_step, commit_step, drop_step}
+use Rattle.session_law.specs.BatchSteps.{batch_step, executed_step, next_step, commit_step, drop_step}
 use Rattle.session_law.specs.Worlds.{first_world, first_node, first_state_of}
 
 -- ---- a world after n tasks and p batches
@@ -150,15 +150,15 @@ batch_counted script n p world batch c =
     later (n + length tasks) (n + length batch.entries) (p + 1) (p + 1) (after script world batch) (omega arith) (omega arith)
     (step_counted (cut_by script.faults) script.nodes n p world (kind_named script.queues batch.queue) tasks (commit_of batch.result) c)
 
-pub placed_count : (batch : Batch) (more : List Placed) → length (placed_in batch ++ more) ≡ length batch.entries + length more
+pub placed_count : (batch : Batch) (more : List Queued) → length (queued_in batch ++ more) ≡ length batch.entries + length more
 placed_count batch more = simp (length-append, length-map) refl
 
 history_counted : (script : Script) (batches : List Batch) (n p : ℕ) (world : World) → IsCounted n p world
-    → IsCounted (n + length (placed_of batches)) (p + length batches) (fold (after script) world batches)
+    → IsCounted (n + length (queued_of batches)) (p + length batches) (fold (after script) world batches)
 history_counted script [] n p world c = later n (n + 0) p (p + 0) world (omega arith) (omega arith) c
 history_counted script (batch ∷ batches) n p world c =
-    let count = placed_count batch (placed_of batches) in
-    later (n + length batch.entries + length (placed_of batches)) (n + length (placed_of (batch ∷ batches))) (p + 1 + length batches) (p + length (batch ∷ batches))
+    let count = placed_count batch (queued_of batches) in
+    later (n + length batch.entries + length (queued_of batches)) (n + length (queued_of (batch ∷ batches))) (p + 1 + length batches) (p + length (batch ∷ batches))
     (fold (after script) (after script world batch) batches) (omega arith) (omega arith)
     (history_counted script batches (n + length batch.entries) (p + 1) (after script world batch) (batch_counted script n p world batch c))
 
@@ -167,7 +167,7 @@ first_sent first zero [] = tt
 first_sent first zero (node ∷ nodes) = (omega arith, first_sent first zero nodes)
 
 -- the world after batches, by how many tasks and batches they are
-pub world_counted : (script : Script) (batches : List Batch) → IsCounted (length (placed_of batches)) (length batches) (world_after script batches)
+pub world_counted : (script : Script) (batches : List Batch) → IsCounted (length (queued_of batches)) (length batches) (world_after script batches)
 unfolding first_world
 world_counted script batches =
     let first : IsCounted 0 0 (first_world script) = record {
@@ -178,5 +178,5 @@ world_counted script batches =
       proposals = omega arith;
       sent = first_sent (first_state_of script) (zero_state script.cluster) script.nodes;
     } in
-    later (0 + length (placed_of batches)) (length (placed_of batches)) (0 + length batches) (length batches) (world_after script batches) (omega arith) (omega arith)
+    later (0 + length (queued_of batches)) (length (queued_of batches)) (0 + length batches) (length batches) (world_after script batches) (omega arith) (omega arith)
     (history_counted script batches 0 0 (first_world script) first)

@@ -5,16 +5,16 @@ use Rattle.std.specs.List.{AllByRecursion, cons_option, list_any}
 use Rattle.std.proofs.lemmas.Bool.{true≢false}
 use Rattle.std.proofs.lemmas.Bool.Decides.{nat_tests}
 use Rattle.std.proofs.lemmas.List.Sums.{sum_by-cons}
-use Rattle.meta_state.specs.declared.states.ClusterState.{ClusterState}
+use Rattle.meta_state.specs.declared.cluster_state.ClusterState.{ClusterState}
 use Rattle.meta_state.specs.declared.versions.Next.TheVariants.{Same, Changed}
 use Rattle.meta_state.specs.Exact.{state_eq}
 use Rattle.meta_state.specs.Versions.{content_of, metadata_version, stamped}
 use Rattle.executors.specs.declared.contexts.Mark.{Mark}
-use Rattle.executors.specs.declared.executing.Executed.{Executed}
-use Rattle.executors.specs.declared.executing.Executed.TheVariants.{Made, Failed}
+use Rattle.executors.specs.declared.executions.Executed.{Executed}
+use Rattle.executors.specs.declared.executions.Executed.TheVariants.{Made, Failed}
 use Rattle.executors.specs.declared.kinds.Kind.{Kind}
-use Rattle.executors.specs.declared.scripts.Script.{Script}
-use Rattle.executors.specs.declared.scripts.ScriptNode.{ScriptNode}
+use Rattle.scripts.specs.declared.whole_script.Script.{Script}
+use Rattle.scripts.specs.declared.whole_script.ScriptNode.{ScriptNode}
 use Rattle.executors.specs.declared.tasks.Task.{Task}
 use Rattle.executors.specs.Contexts.{numbered}
 use Rattle.executors.specs.Executions.{executed}
@@ -27,11 +27,11 @@ use Rattle.session_law.specs.declared.worlds.Reach.{Reach}
 use Rattle.session_law.specs.declared.worlds.Stepped.{Stepped}
 use Rattle.session_law.specs.declared.worlds.World.{World}
 use Rattle.session_law.specs.Committed.{committed_on, is_published}
-use Rattle.session_law.specs.Histories.{AreApart, AreResults, IsApart, Placed, after, commit_of, is_same_task, kind_named, placed_in, placed_of, stepped, tasks_at}
+use Rattle.session_law.specs.Histories.{AreApart, AreResults, IsApart, Queued, after, commit_of, is_same_task, kind_named, queued_in, queued_of, stepped, tasks_at}
 use Rattle.session_law.specs.Laws.{AreConsecutive, KeepsState, OthersKeepTheState, TasksStandOnce, VersionsAreInOrder, published_version, published_versions}
 use Rattle.session_law.specs.Outcomes.{holds, is_task}
 use Rattle.session_law.specs.Publications.{cut_by, does_commit, reach_all, reach_none}
-use Rattle.session_law.specs.Steps.{batch_step, commit_step, drop_step, executed_step, next_step}
+use Rattle.session_law.specs.BatchSteps.{batch_step, commit_step, drop_step, executed_step, next_step}
 use Rattle.session_law.specs.Worlds.{first_world}
 
 -- ---- one batch
@@ -128,11 +128,11 @@ versions_are_in_order script batches h = record {
 other_task : (a b : Entry) (client step : ℕ) → is_task client step a ≡ true → is_same_task a b ≡ false → is_task client step b ≡ false
 other_task a b client step p q = grind (arith, nat_tests)
 
-is_placed : ℕ → ℕ → Placed → Bool
+is_placed : ℕ → ℕ → Queued → Bool
 is_placed client step placed = is_task client step placed.entry
 
 -- where an entry is a task, no later one is
-none_later : (a : Placed) (more : List Placed) (client step : ℕ) → is_task client step a.entry ≡ true → AllByRecursion (IsApart a) more
+none_later : (a : Queued) (more : List Queued) (client step : ℕ) → is_task client step a.entry ≡ true → AllByRecursion (IsApart a) more
     → list_any (is_placed client step) more ≡ false
 unfolding is_placed
 none_later a [] client step p q = refl
@@ -140,7 +140,7 @@ none_later a (b ∷ more) client step p q =
     λ i. other_task a.entry b.entry client step p q.0.other i || none_later a more client step p q.1 i
 
 -- of what is apart, a part is
-apart_rest : (xs ys : List Placed) → AreApart (xs ++ ys) → AreApart ys
+apart_rest : (xs ys : List Queued) → AreApart (xs ++ ys) → AreApart ys
 apart_rest [] ys a = a
 apart_rest (x ∷ xs) ys a = apart_rest xs ys a.1
 
@@ -156,11 +156,11 @@ neither : (a b : Bool) → (a || b) ≡ false → (a ≡ false) × (b ≡ false)
 neither true b p = absurd (true≢false p)
 neither false b p = (refl, p)
 
-abbrev stands_in : List ℕ → Entry → Placed
+abbrev stands_in : List ℕ → Entry → Queued
 stands_in queue entry = record { queue = queue; entry = entry }
 
 -- where entries of a batch hold a task, nothing behind them does
-batch_alone : (queue : List ℕ) (entries : List Entry) (more : List Placed) (client step : ℕ) → list_any (is_task client step) entries ≡ true
+batch_alone : (queue : List ℕ) (entries : List Entry) (more : List Queued) (client step : ℕ) → list_any (is_task client step) entries ≡ true
     → AreApart (map (stands_in queue) entries ++ more) → list_any (is_placed client step) more ≡ false
 batch_alone queue [] more client step p a = absurd (true≢false (sym p))
 batch_alone queue (entry ∷ entries) more client step p a =
@@ -169,7 +169,7 @@ batch_alone queue (entry ∷ entries) more client step p a =
     (λ q. batch_alone queue entries more client step q a.1)
 
 -- entries that aren't a task, of a batch and behind it
-parts_free : (queue : List ℕ) (entries : List Entry) (more : List Placed) (client step : ℕ)
+parts_free : (queue : List ℕ) (entries : List Entry) (more : List Queued) (client step : ℕ)
     → list_any (is_placed client step) (map (stands_in queue) entries ++ more) ≡ false
     → (list_any (is_task client step) entries ≡ false) × (list_any (is_placed client step) more ≡ false)
 unfolding is_placed
@@ -188,10 +188,10 @@ held_first : (batch : Batch) (batches : List Batch) (client step : ℕ)
     → count_by (holds client step) (batch ∷ batches) ≡ cond (holds client step batch) 1 0 + count_by (holds client step) batches
 held_first batch batches client step = sum_by-cons (λ b. cond (holds client step b) 1 0) batch batches
 
-none_held : (batches : List Batch) (client step : ℕ) → list_any (is_placed client step) (placed_of batches) ≡ false → count_by (holds client step) batches ≡ 0
+none_held : (batches : List Batch) (client step : ℕ) → list_any (is_placed client step) (queued_of batches) ≡ false → count_by (holds client step) batches ≡ 0
 none_held [] client step h = refl
 none_held (batch ∷ batches) client step h =
-    let parts = parts_free batch.queue batch.entries (placed_of batches) client step h in
+    let parts = parts_free batch.queue batch.entries (queued_of batches) client step h in
     held_first batch batches client step ∙
     none_by (holds client step batch) (count_by (holds client step) batches) parts.0 (none_held batches client step parts.1)
 
@@ -199,13 +199,13 @@ once_by : (b : Bool) (n : ℕ) → (b ≡ true → n ≡ 0) → n ≤ 1 → cond
 once_by true n f h = let e = f refl in omega arith
 once_by false n f h = omega arith
 
-once : (batches : List Batch) (client step : ℕ) → AreApart (placed_of batches) → count_by (holds client step) batches ≤ 1
+once : (batches : List Batch) (client step : ℕ) → AreApart (queued_of batches) → count_by (holds client step) batches ≤ 1
 once [] client step a = omega arith
 once (batch ∷ batches) client step a =
     let P : ℕ → Type 0 = λ n. n ≤ 1 in
     subst P (sym (held_first batch batches client step)) (once_by (holds client step batch) (count_by (holds client step) batches)
-    (λ p. none_held batches client step (batch_alone batch.queue batch.entries (placed_of batches) client step p a))
-    (once batches client step (apart_rest (placed_in batch) (placed_of batches) a)))
+    (λ p. none_held batches client step (batch_alone batch.queue batch.entries (queued_of batches) client step p a))
+    (once batches client step (apart_rest (queued_in batch) (queued_of batches) a)))
 
 pub tasks_stand_once : TasksStandOnce
 tasks_stand_once script batches h client step = once batches client step h.serial.apart

@@ -5,7 +5,7 @@ use Rattle.serde_json.specs.View.{items_of}
 use Rattle.serde_json.specs.Written.{has_float, items_have_float}
 use Rattle.meta_state.specs.Json.{count}
 use Rattle.meta_state.proofs.NoFloat.{both_false, with_members_has_no_float}
-use Rattle.session_law.specs.declared.records.View.{View}
+use Rattle.session_law.specs.declared.node_records.View.{View}
 use Rattle.session_law.specs.ViewJson.{index_names_data, view_data}
 
 names_have_no_float : (names : List (List ℕ)) → items_have_float (items_of (map string names)) ≡ false

@@ -8,16 +8,16 @@ use Rattle.std.proofs.lemmas.List.{get_or-take, get_or-drop, length-take, length
 use Rattle.std.proofs.lemmas.List.Folds.{list_all_at}
 use Rattle.std.proofs.lemmas.Option.{get_or_from_slice_get, slice_get_within}
 use Rattle.meta_state.specs.declared.predicates.Pred.{Pred}
-use Rattle.meta_state.specs.declared.states.ClusterState.{ClusterState}
-use Rattle.executors.specs.declared.scripts.Script.{Script}
-use Rattle.executors.specs.declared.steps.Step.{Step}
+use Rattle.meta_state.specs.declared.cluster_state.ClusterState.{ClusterState}
+use Rattle.scripts.specs.declared.whole_script.Script.{Script}
+use Rattle.scripts.specs.declared.steps.Step.{Step}
 use Rattle.session_law.specs.declared.batches.Batch.{Batch}
-use Rattle.session_law.specs.declared.watchings.Watch.{Watch}
-use Rattle.session_law.specs.declared.watchings.WatchEnd.{WatchEnd}
-use Rattle.session_law.specs.declared.watchings.WatchEnd.TheVariants as end
+use Rattle.session_law.specs.declared.watches.Watch.{Watch}
+use Rattle.session_law.specs.declared.watches.WatchEnd.{WatchEnd}
+use Rattle.session_law.specs.declared.watches.WatchEnd.TheVariants as end
 use Rattle.session_law.specs.Laws.{AnswersAreFirstHits, AppliedWasHanded, IsFirstHit, IsFirstHitOf, IsPartOf, ViewsAreEmpty}
 use Rattle.session_law.specs.NodeRecords.{Commit, commits_to, does_fail}
-use Rattle.session_law.specs.Views.{views_of, with_indices}
+use Rattle.session_law.specs.Views.{views_of, with_aliases_of_all}
 use Rattle.session_law.specs.Watches as watched
 use Rattle.session_law.specs.Watches.{IsAnsweredBy, IsPart, IsPartEnd, IsPartWith, IsWatchPart, answer_of, final_place, is_hit_by, states_at}
 
@@ -88,4 +88,4 @@ applied_was_handed script batches node = kept_within (λ c. not (does_fail scrip
 
 pub views_are_empty : ViewsAreEmpty
 unfolding views_of
-views_are_empty state e = ((λ i. with_indices (e i) []), (λ i. map (λ p. (p.0, p.1.id)) (e i)))
+views_are_empty state e = ((λ i. with_aliases_of_all (e i) []), (λ i. map (λ p. (p.0, p.1.id)) (e i)))

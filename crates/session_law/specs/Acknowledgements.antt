@@ -4,13 +4,13 @@
 use Rattle.std.specs.Prelude.{◌≡◌, ℕ, ◌==◌, ◌≤◌, ◌&&◌, ◌||◌, Bool, true, false, not, List, Option, Some, None, count_by, filter, nat_le, option_map, bytes_eq}
 use Rattle.std.specs.List.{AllByRecursion, list_any}
 use Rattle.std.specs.Map.{keys_of}
-use Rattle.meta_state.specs.declared.states.ClusterState.{ClusterState}
-use Rattle.executors.specs.declared.ends.TaskEnd.{TaskEnd}
-use Rattle.executors.specs.declared.ends.TaskEnd.TheVariants as task
-use Rattle.executors.specs.declared.scripts.Script.{Script}
-use Rattle.executors.specs.declared.steps.Ack.{Ack}
-use Rattle.executors.specs.declared.steps.Step.{Step}
-use Rattle.executors.specs.declared.steps.Step.TheVariants.{Submit}
+use Rattle.meta_state.specs.declared.cluster_state.ClusterState.{ClusterState}
+use Rattle.session_law.specs.declared.task_ends.TaskEnd.{TaskEnd}
+use Rattle.session_law.specs.declared.task_ends.TaskEnd.TheVariants as task
+use Rattle.scripts.specs.declared.whole_script.Script.{Script}
+use Rattle.scripts.specs.declared.steps.Ack.{Ack}
+use Rattle.scripts.specs.declared.steps.Step.{Step}
+use Rattle.scripts.specs.declared.steps.Step.TheVariants.{Submit}
 use Rattle.session_law.specs.declared.batches.Batch.{Batch}
 use Rattle.session_law.specs.declared.replies.AckEnd.{AckEnd}
 use Rattle.session_law.specs.declared.replies.AckEnd.TheVariants as ack

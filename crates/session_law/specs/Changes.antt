@@ -3,11 +3,11 @@
 use Rattle.std.specs.Prelude.{ℕ, Bool, true, false, not, ◌==◌, ◌&&◌, List, [], ◌∷◌, Option, Some, None, filter, is_some, bytes_eq}
 use Rattle.std.specs.Map.{keys_of}
 use Rattle.plain_data.specs.Pairs.{lookup, with}
-use Rattle.meta_state.specs.declared.indices.IndexMetadata.{IndexMetadata}
-use Rattle.meta_state.specs.declared.nodes.NodeInfo.{NodeInfo}
-use Rattle.meta_state.specs.declared.states.ClusterState.{ClusterState}
+use Rattle.meta_state.specs.declared.index_metadata.IndexMetadata.{IndexMetadata}
+use Rattle.meta_state.specs.declared.node_info.NodeInfo.{NodeInfo}
+use Rattle.meta_state.specs.declared.cluster_state.ClusterState.{ClusterState}
 use Rattle.meta_state.specs.Exact.{index_eq}
-use Rattle.session_law.specs.declared.records.Change.{Change}
+use Rattle.session_law.specs.declared.node_records.Change.{Change}
 
 -- ---- indices
 

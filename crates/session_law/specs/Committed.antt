@@ -1,9 +1,9 @@
 -- The states that are committed. A node has the zero state, the first state or a committed one, and each has a version
 -- of its own. It is this project's own.
 use Rattle.std.specs.Prelude.{ℕ, Bool, true, false, ◌==◌, List, [], ◌∷◌, find, unwrap_or, if◌then◌else◌}
-use Rattle.meta_state.specs.declared.states.ClusterState.{ClusterState}
+use Rattle.meta_state.specs.declared.cluster_state.ClusterState.{ClusterState}
 use Rattle.meta_state.specs.States.{zero_state}
-use Rattle.executors.specs.declared.scripts.Script.{Script}
+use Rattle.scripts.specs.declared.whole_script.Script.{Script}
 use Rattle.session_law.specs.declared.batches.Batch.{Batch}
 use Rattle.session_law.specs.declared.batches.BatchResult.{BatchResult}
 use Rattle.session_law.specs.declared.batches.BatchResult.TheVariants.{Published}

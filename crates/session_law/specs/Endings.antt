@@ -2,13 +2,13 @@
 -- project's own.
 use Rattle.std.specs.Prelude.{◌≡◌, ℕ, ◌==◌, ◌≤◌, ◌<◌, ◌&&◌, Bool, true, false, List, Option, Some, None, count_by, IsTrue}
 use Rattle.std.specs.List.{AllByRecursion, list_any}
-use Rattle.executors.specs.declared.ends.TaskEnd.{TaskEnd}
-use Rattle.executors.specs.declared.ends.TaskEnd.TheVariants as end
-use Rattle.executors.specs.declared.scripts.Script.{Script}
-use Rattle.executors.specs.declared.steps.Goal.TheVariants as goal
-use Rattle.executors.specs.declared.steps.Step.{Step}
-use Rattle.executors.specs.declared.steps.Step.TheVariants.{Await, Submit}
-use Rattle.executors.specs.Scripts.{is_submit}
+use Rattle.session_law.specs.declared.task_ends.TaskEnd.{TaskEnd}
+use Rattle.session_law.specs.declared.task_ends.TaskEnd.TheVariants as end
+use Rattle.scripts.specs.declared.whole_script.Script.{Script}
+use Rattle.scripts.specs.declared.steps.Goal.TheVariants as goal
+use Rattle.scripts.specs.declared.steps.Step.{Step}
+use Rattle.scripts.specs.declared.steps.Step.TheVariants.{Await, Submit}
+use Rattle.scripts.specs.Scripts.{is_submit}
 use Rattle.session_law.specs.declared.batches.Batch.{Batch}
 use Rattle.session_law.specs.declared.replies.Reply.{Reply}
 use Rattle.session_law.specs.DueTimes.{due}
@@ -27,9 +27,9 @@ abbrev pub is_awaited_before_close : Script → ℕ → ℕ → Bool
 is_awaited_before_close script client step = list_any (λ s. (s.client == client) && does_await_task step s.step) (before_close script)
 
 -- the time that a submit step may wait; none is for ever
-abbrev pub timeout_of : Option Step → Option ℕ
-timeout_of (Some (Submit queue task timeout ack)) = timeout
-timeout_of _ = None
+abbrev pub task_timeout_of : Option Step → Option ℕ
+task_timeout_of (Some (Submit queue task timeout ack)) = timeout
+task_timeout_of _ = None
 
 -- the deadline of a task that may wait so long, and a reading at or past it
 abbrev pub IsOver : ℕ → Option ℕ → ℕ → ℕ → Type 0
@@ -38,7 +38,7 @@ IsOver at (Some timeout) deadline reading = (0 < timeout) × ((deadline ≡ due 
 
 -- the end of a task that is in no batch
 abbrev pub IsUnbatchedEnd : Script → Reply → TaskEnd → Type 0
-IsUnbatchedEnd script reply (end.Timeout deadline reading) = IsOver reply.at (timeout_of (step_at script reply.client reply.step)) deadline reading
+IsUnbatchedEnd script reply (end.Timeout deadline reading) = IsOver reply.at (task_timeout_of (step_at script reply.client reply.step)) deadline reading
 IsUnbatchedEnd script reply (end.Closed client step) =
     IsTrue (is_close_at script client step) × (is_awaited_before_close script reply.client reply.step ≡ false)
 IsUnbatchedEnd script reply _ = ⊥

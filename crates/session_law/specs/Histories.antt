@@ -3,10 +3,10 @@ use Rattle.std.specs.Prelude.{◌≡◌, ℕ, ◌+◌, ◌<◌, Bool, true, fals
 use Rattle.std.specs.List.{AllByRecursion}
 use Rattle.executors.specs.declared.kinds.Kind.{Kind}
 use Rattle.executors.specs.declared.kinds.Kind.TheVariants as kind
-use Rattle.executors.specs.declared.queues.QueueSpec.{QueueSpec}
-use Rattle.executors.specs.declared.scripts.Script.{Script}
-use Rattle.executors.specs.declared.steps.Step.{Step}
-use Rattle.executors.specs.declared.steps.Step.TheVariants.{Submit}
+use Rattle.scripts.specs.declared.queues.QueueSpec.{QueueSpec}
+use Rattle.scripts.specs.declared.whole_script.Script.{Script}
+use Rattle.scripts.specs.declared.steps.Step.{Step}
+use Rattle.scripts.specs.declared.steps.Step.TheVariants.{Submit}
 use Rattle.executors.specs.declared.tasks.Task.{Task}
 use Rattle.session_law.specs.declared.batches.Batch.{Batch}
 use Rattle.session_law.specs.declared.batches.BatchResult.{BatchResult}
@@ -15,7 +15,7 @@ use Rattle.session_law.specs.declared.batches.Entry.{Entry}
 use Rattle.session_law.specs.declared.worlds.Stepped.{Stepped}
 use Rattle.session_law.specs.declared.worlds.World.{World}
 use Rattle.session_law.specs.Publications.{cut_by}
-use Rattle.session_law.specs.Steps.{batch_step}
+use Rattle.session_law.specs.BatchSteps.{batch_step}
 use Rattle.session_law.specs.Worlds.{first_world}
 
 -- ---- what a script says of an entry and of a queue
@@ -66,15 +66,15 @@ AreResults script world (batch ∷ batches) =
     (batch.result ≡ (stepped script world batch).result) × AreResults script (after script world batch) batches
 
 -- an entry with the name of its batch's queue
-pub record Placed : Type 0 where
+pub record Queued : Type 0 where
   pub queue : List ℕ
   pub entry : Entry
 
-abbrev pub placed_in : Batch → List Placed
-placed_in batch = map (λ e. record { queue = batch.queue; entry = e }) batch.entries
+abbrev pub queued_in : Batch → List Queued
+queued_in batch = map (λ e. record { queue = batch.queue; entry = e }) batch.entries
 
-abbrev pub placed_of : List Batch → List Placed
-placed_of batches = flat_map placed_in batches
+abbrev pub queued_of : List Batch → List Queued
+queued_of batches = flat_map queued_in batches
 
 abbrev pub is_named : List ℕ → Option QueueSpec → Bool
 is_named name None = false
@@ -85,14 +85,14 @@ abbrev pub is_own_step : Script → List ℕ → Option Step → Bool
 is_own_step script name (Some (Submit queue task timeout ack)) = is_named name (slice_get script.queues queue)
 is_own_step script name _ = false
 
-abbrev pub IsOwn : Script → Placed → Type 0
+abbrev pub IsOwn : Script → Queued → Type 0
 IsOwn script placed = IsTrue (is_own_step script placed.queue (step_at script placed.entry.client placed.entry.step))
 
 abbrev pub is_same_task : Entry → Entry → Bool
 is_same_task a b = (a.client == b.client) && (a.step == b.step)
 
 -- an earlier and a later entry: no task stands twice, and in one queue the steps of one client rise
-pub record IsApart (a b : Placed) : Type 0 where
+pub record IsApart (a b : Queued) : Type 0 where
   pub other : is_same_task a.entry b.entry ≡ false
   pub rises : bytes_eq a.queue b.queue ≡ true → a.entry.client ≡ b.entry.client → a.entry.step < b.entry.step
 
@@ -102,7 +102,7 @@ AreSeen number [] = Unit {0}
 AreSeen number (batch ∷ batches) = AllByRecursion (λ e. e.seen < number) batch.entries × AreSeen (number + 1) batches
 
 -- each entry is apart from every later one
-abbrev pub AreApart : List Placed → Type 0
+abbrev pub AreApart : List Queued → Type 0
 AreApart [] = Unit {0}
 AreApart (placed ∷ more) = AllByRecursion (IsApart placed) more × AreApart more
 
@@ -110,8 +110,8 @@ AreApart (placed ∷ more) = AllByRecursion (IsApart placed) more × AreApart mo
 pub record IsSerial (script : Script) (batches : List Batch) : Type 0 where
   pub results : AreResults script (first_world script) batches
   pub filled : AllByRecursion (λ b. 0 < length b.entries) batches
-  pub own : AllByRecursion (IsOwn script) (placed_of batches)
-  pub apart : AreApart (placed_of batches)
+  pub own : AllByRecursion (IsOwn script) (queued_of batches)
+  pub apart : AreApart (queued_of batches)
   pub seen : AreSeen 1 batches
 
 -- a book is kept where its batches are a serial history and its world is the one after them

@@ -3,14 +3,14 @@
 -- those of the nodes, and the last state and the order of all lists are right. It is this project's own.
 use Rattle.std.specs.Prelude.{◌≡◌, ℕ, ◌==◌, ◌&&◌, ◌||◌, Bool, true, List, [], ◌∷◌, filter, map, nat_lt, bytes_eq, IsTrue}
 use Rattle.std.specs.List.{AllByRecursion}
-use Rattle.executors.specs.declared.scripts.Script.{Script}
-use Rattle.executors.specs.Scripts.{is_node}
-use Rattle.session_law.specs.declared.looks.Read.{Read}
-use Rattle.session_law.specs.declared.records.NodeRec.{NodeRec}
+use Rattle.scripts.specs.declared.whole_script.Script.{Script}
+use Rattle.scripts.specs.Scripts.{is_node}
+use Rattle.session_law.specs.declared.reads.Read.{Read}
+use Rattle.session_law.specs.declared.node_records.NodeRec.{NodeRec}
 use Rattle.session_law.specs.declared.replies.AckReply.{AckReply}
 use Rattle.session_law.specs.declared.replies.Reply.{Reply}
 use Rattle.session_law.specs.declared.sessions.Session.{Session}
-use Rattle.session_law.specs.declared.watchings.Watch.{Watch}
+use Rattle.session_law.specs.declared.watches.Watch.{Watch}
 use Rattle.session_law.specs.Acknowledgements.{IsAcknowledged}
 use Rattle.session_law.specs.Endings.{EndsOnce}
 use Rattle.session_law.specs.Histories.{world_after}

@@ -1,9 +1,9 @@
 -- The lines of a report, each ended by a line feed. Their form is this project's own.
 use Rattle.std.specs.Prelude.{ℕ, ◌+◌, List, [], ◌∷◌, ◌++◌, codes, decimal}
-use Rattle.meta_state.specs.declared.states.ClusterState.{ClusterState}
+use Rattle.meta_state.specs.declared.cluster_state.ClusterState.{ClusterState}
 use Rattle.meta_state.specs.Json.{state_json}
-use Rattle.executors.specs.declared.ends.TaskEnd.{TaskEnd}
-use Rattle.executors.specs.declared.ends.TaskEnd.TheVariants as end
+use Rattle.session_law.specs.declared.task_ends.TaskEnd.{TaskEnd}
+use Rattle.session_law.specs.declared.task_ends.TaskEnd.TheVariants as end
 use Rattle.executors.specs.declared.refusals.TaskRefusal.{TaskRefusal}
 use Rattle.executors.specs.Words.{refusal_word}
 use Rattle.session_law.specs.declared.batches.Batch.{Batch}

@@ -1,12 +1,12 @@
 -- The lines of a node: what it was handed and applied, one line for each handed version, and its views. Their form is
 -- this project's own.
 use Rattle.std.specs.Prelude.{ℕ, Bool, true, false, List, [], ◌∷◌, ◌++◌, codes, decimal, if◌then◌else◌}
-use Rattle.session_law.specs.declared.records.Apply.{Apply}
-use Rattle.session_law.specs.declared.records.ApplyEnd.{ApplyEnd}
-use Rattle.session_law.specs.declared.records.ApplyEnd.TheVariants.{Failed, Applied}
-use Rattle.session_law.specs.declared.records.Change.{Change}
-use Rattle.session_law.specs.declared.records.NodeRec.{NodeRec}
-use Rattle.session_law.specs.declared.records.View.{View}
+use Rattle.session_law.specs.declared.node_records.Apply.{Apply}
+use Rattle.session_law.specs.declared.node_records.ApplyEnd.{ApplyEnd}
+use Rattle.session_law.specs.declared.node_records.ApplyEnd.TheVariants.{Failed, Applied}
+use Rattle.session_law.specs.declared.node_records.Change.{Change}
+use Rattle.session_law.specs.declared.node_records.NodeRec.{NodeRec}
+use Rattle.session_law.specs.declared.node_records.View.{View}
 use Rattle.session_law.specs.Joining.{lines_text, names_text, numbers_text}
 use Rattle.session_law.specs.Lines.{line_end}
 use Rattle.session_law.specs.ViewJson.{view_json}

@@ -3,16 +3,16 @@
 -- fail (Elasticsearch's `ClusterApplierService`; the faults, and what the record keeps, are this project's own).
 use Rattle.std.specs.Prelude.{ℕ, Bool, true, false, not, ◌&&◌, List, [], ◌∷◌, ◌++◌, Option, Some, None, filter, find, is_some, map, bytes_eq, if◌then◌else◌}
 use Rattle.plain_data.specs.Pairs.{lookup}
-use Rattle.meta_state.specs.declared.states.ClusterState.{ClusterState}
+use Rattle.meta_state.specs.declared.cluster_state.ClusterState.{ClusterState}
 use Rattle.meta_state.specs.States.{zero_state}
-use Rattle.executors.specs.declared.faults.FaultKind.{FaultKind}
-use Rattle.executors.specs.declared.faults.FaultKind.TheVariants as fault
-use Rattle.executors.specs.declared.scripts.Script.{Script}
-use Rattle.executors.specs.declared.scripts.ScriptNode.{ScriptNode}
+use Rattle.scripts.specs.declared.faults.FaultKind.{FaultKind}
+use Rattle.scripts.specs.declared.faults.FaultKind.TheVariants as fault
+use Rattle.scripts.specs.declared.whole_script.Script.{Script}
+use Rattle.scripts.specs.declared.whole_script.ScriptNode.{ScriptNode}
 use Rattle.session_law.specs.declared.batches.Batch.{Batch}
-use Rattle.session_law.specs.declared.records.Apply.{Apply}
-use Rattle.session_law.specs.declared.records.ApplyEnd.TheVariants as end
-use Rattle.session_law.specs.declared.records.NodeRec.{NodeRec}
+use Rattle.session_law.specs.declared.node_records.Apply.{Apply}
+use Rattle.session_law.specs.declared.node_records.ApplyEnd.TheVariants as end
+use Rattle.session_law.specs.declared.node_records.NodeRec.{NodeRec}
 use Rattle.session_law.specs.declared.worlds.NodeWorld.{NodeWorld}
 use Rattle.session_law.specs.declared.worlds.World.{World}
 use Rattle.session_law.specs.Changes.{change_between}

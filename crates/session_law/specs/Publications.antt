@@ -4,12 +4,12 @@
 -- can't be reached at the k-th publication that is sent to it.
 use Rattle.std.specs.Prelude.{ℕ, ◌+◌, Bool, true, false, not, ◌&&◌, ◌||◌, ◌==◌, List, [], ◌∷◌, ◌++◌, Option, Some, None, is_some, nat_lt, bytes_eq, count_by, if◌then◌else◌}
 use Rattle.plain_data.specs.Pairs.{lookup}
-use Rattle.meta_state.specs.declared.nodes.NodeInfo.{NodeInfo}
-use Rattle.meta_state.specs.declared.states.ClusterState.{ClusterState}
-use Rattle.executors.specs.declared.faults.Fault.{Fault}
-use Rattle.executors.specs.declared.faults.FaultKind.{FaultKind}
-use Rattle.executors.specs.declared.faults.FaultKind.TheVariants.{Unreachable}
-use Rattle.executors.specs.declared.scripts.ScriptNode.{ScriptNode}
+use Rattle.meta_state.specs.declared.node_info.NodeInfo.{NodeInfo}
+use Rattle.meta_state.specs.declared.cluster_state.ClusterState.{ClusterState}
+use Rattle.scripts.specs.declared.faults.Fault.{Fault}
+use Rattle.scripts.specs.declared.faults.FaultKind.{FaultKind}
+use Rattle.scripts.specs.declared.faults.FaultKind.TheVariants.{Unreachable}
+use Rattle.scripts.specs.declared.whole_script.ScriptNode.{ScriptNode}
 use Rattle.session_law.specs.declared.worlds.NodeWorld.{NodeWorld}
 use Rattle.session_law.specs.declared.worlds.Reach.{Reach}
 

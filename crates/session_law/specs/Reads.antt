@@ -3,19 +3,19 @@
 use Rattle.std.specs.Prelude.{◌≡◌, ℕ, ◌==◌, ◌≤◌, ◌&&◌, Bool, true, false, List, [], ◌∷◌, Option, Some, None, count_by, filter, filter_map, find, flat_map, is_some, map, option_map, slice_get, unwrap_or, bytes_eq, IsTrue, if◌then◌else◌}
 use Rattle.std.specs.List.{AllByRecursion, list_any}
 use Rattle.meta_state.specs.Looks.{found_at}
-use Rattle.executors.specs.declared.ends.TaskEnd.{TaskEnd}
-use Rattle.executors.specs.declared.ends.TaskEnd.TheVariants as task
-use Rattle.executors.specs.declared.scripts.Script.{Script}
-use Rattle.executors.specs.declared.steps.Ack.{Ack}
-use Rattle.executors.specs.declared.steps.Goal.TheVariants as goal
-use Rattle.executors.specs.declared.steps.Step.{Step}
-use Rattle.executors.specs.declared.steps.Step.TheVariants as step
-use Rattle.session_law.specs.declared.looks.Read.{Read}
+use Rattle.session_law.specs.declared.task_ends.TaskEnd.{TaskEnd}
+use Rattle.session_law.specs.declared.task_ends.TaskEnd.TheVariants as task
+use Rattle.scripts.specs.declared.whole_script.Script.{Script}
+use Rattle.scripts.specs.declared.steps.Ack.{Ack}
+use Rattle.scripts.specs.declared.steps.Goal.TheVariants as goal
+use Rattle.scripts.specs.declared.steps.Step.{Step}
+use Rattle.scripts.specs.declared.steps.Step.TheVariants as step
+use Rattle.session_law.specs.declared.reads.Read.{Read}
 use Rattle.session_law.specs.declared.replies.AckEnd.{AckEnd}
 use Rattle.session_law.specs.declared.replies.AckEnd.TheVariants as ack
 use Rattle.session_law.specs.declared.replies.AckReply.{AckReply}
 use Rattle.session_law.specs.declared.sessions.Session.{Session}
-use Rattle.session_law.specs.declared.watchings.Watch.{Watch}
+use Rattle.session_law.specs.declared.watches.Watch.{Watch}
 use Rattle.session_law.specs.Acknowledgements.{ack_of, is_ack_to, must_of}
 use Rattle.session_law.specs.Committed.{committed_at}
 use Rattle.session_law.specs.Histories.{step_at}

@@ -4,13 +4,13 @@ use Rattle.serde_json.specs.Data.{string}
 use Rattle.serde_json.specs.Written.{compact_text}
 use Rattle.meta_state.specs.declared.looks.Found.{Found}
 use Rattle.meta_state.specs.declared.looks.Found.TheVariants as found
-use Rattle.session_law.specs.declared.looks.Read.{Read}
+use Rattle.session_law.specs.declared.reads.Read.{Read}
 use Rattle.session_law.specs.declared.replies.AckEnd.{AckEnd}
 use Rattle.session_law.specs.declared.replies.AckEnd.TheVariants as ack
 use Rattle.session_law.specs.declared.replies.AckReply.{AckReply}
-use Rattle.session_law.specs.declared.watchings.Watch.{Watch}
-use Rattle.session_law.specs.declared.watchings.WatchEnd.{WatchEnd}
-use Rattle.session_law.specs.declared.watchings.WatchEnd.TheVariants as watch
+use Rattle.session_law.specs.declared.watches.Watch.{Watch}
+use Rattle.session_law.specs.declared.watches.WatchEnd.{WatchEnd}
+use Rattle.session_law.specs.declared.watches.WatchEnd.TheVariants as watch
 use Rattle.session_law.specs.Joining.{lines_text, names_text}
 use Rattle.session_law.specs.Lines.{line_end}
 

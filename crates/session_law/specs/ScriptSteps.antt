@@ -1,10 +1,10 @@
 -- The steps of a script with their numbers, and what a reader looks for among them: those before a step, the node of a
 -- watch, a read or a next step, and the close step. It is this project's own.
 use Rattle.std.specs.Prelude.{ℕ, ◌+◌, ◌==◌, ◌&&◌, Bool, false, List, [], ◌∷◌, ◌++◌, Option, Some, None, find, nat_lt, slice_get, take, unwrap_or}
-use Rattle.executors.specs.declared.scripts.Script.{Script}
-use Rattle.executors.specs.declared.steps.Step.{Step}
-use Rattle.executors.specs.declared.steps.Step.TheVariants.{Watch, Next, Read}
-use Rattle.executors.specs.Scripts.{is_close}
+use Rattle.scripts.specs.declared.whole_script.Script.{Script}
+use Rattle.scripts.specs.declared.steps.Step.{Step}
+use Rattle.scripts.specs.declared.steps.Step.TheVariants.{Watch, Next, Read}
+use Rattle.scripts.specs.Scripts.{is_close}
 
 -- a step with the number of its client and its own
 pub record NumberedStep : Type 0 where

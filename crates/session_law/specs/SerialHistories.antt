@@ -2,12 +2,12 @@
 -- is this project's own.
 use Rattle.std.specs.Prelude.{◌≡◌, ℕ, max, List, [], ◌∷◌, map}
 use Rattle.std.specs.List.{AllByRecursion}
-use Rattle.executors.specs.declared.scripts.Script.{Script}
-use Rattle.executors.specs.declared.steps.Goal.TheVariants.{Task, Ack}
-use Rattle.executors.specs.declared.steps.Step.{Step}
-use Rattle.executors.specs.declared.steps.Step.TheVariants.{Await}
+use Rattle.scripts.specs.declared.whole_script.Script.{Script}
+use Rattle.scripts.specs.declared.steps.Goal.TheVariants.{Task, Ack}
+use Rattle.scripts.specs.declared.steps.Step.{Step}
+use Rattle.scripts.specs.declared.steps.Step.TheVariants.{Await}
 use Rattle.session_law.specs.declared.batches.Batch.{Batch}
-use Rattle.session_law.specs.Histories.{IsSerial, Placed, placed_of}
+use Rattle.session_law.specs.Histories.{IsSerial, Queued, queued_of}
 use Rattle.session_law.specs.Outcomes.{number_of}
 use Rattle.session_law.specs.ScriptSteps.{steps_before}
 
@@ -25,9 +25,9 @@ awaited_batch batches client _ = 0
 abbrev pub seen_of : Script → List Batch → ℕ → ℕ → ℕ
 seen_of script batches client step = greatest (map (λ s. awaited_batch batches s.client s.step) (steps_before script client step))
 
-abbrev pub HasSeen : Script → List Batch → Placed → Type 0
+abbrev pub HasSeen : Script → List Batch → Queued → Type 0
 HasSeen script batches placed = placed.entry.seen ≡ seen_of script batches placed.entry.client placed.entry.step
 
 pub record IsSerialHistory (script : Script) (batches : List Batch) : Type 0 where
   pub serial : IsSerial script batches
-  pub seen : AllByRecursion (HasSeen script batches) (placed_of batches)
+  pub seen : AllByRecursion (HasSeen script batches) (queued_of batches)

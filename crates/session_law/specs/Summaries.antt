@@ -3,10 +3,10 @@
 use Rattle.std.specs.Prelude.{ℕ, ◌==◌, Bool, true, false, List, [], ◌∷◌, ◌++◌, codes, count_by, decimal, length, if◌then◌else◌}
 use Rattle.std.specs.List.{list_all}
 use Rattle.plain_data.specs.Pairs.{with}
-use Rattle.meta_state.specs.declared.indices.IndexMetadata.{IndexMetadata}
-use Rattle.executors.specs.declared.ends.TaskEnd.{TaskEnd}
-use Rattle.executors.specs.declared.ends.TaskEnd.TheVariants.{Ok}
-use Rattle.session_law.specs.declared.records.NodeRec.{NodeRec}
+use Rattle.meta_state.specs.declared.index_metadata.IndexMetadata.{IndexMetadata}
+use Rattle.session_law.specs.declared.task_ends.TaskEnd.{TaskEnd}
+use Rattle.session_law.specs.declared.task_ends.TaskEnd.TheVariants.{Ok}
+use Rattle.session_law.specs.declared.node_records.NodeRec.{NodeRec}
 use Rattle.session_law.specs.declared.sessions.Session.{Session}
 use Rattle.session_law.specs.NodeLines.{applied_versions}
 use Rattle.session_law.specs.Lines.{line_end}

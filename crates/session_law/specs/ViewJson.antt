@@ -4,7 +4,7 @@ use Rattle.serde_json.specs.Data.{Data, string, array, object, no_members, membe
 use Rattle.serde_json.specs.View.{items_of}
 use Rattle.serde_json.specs.Written.{compact_text}
 use Rattle.meta_state.specs.Json.{count, with_members}
-use Rattle.session_law.specs.declared.records.View.{View}
+use Rattle.session_law.specs.declared.node_records.View.{View}
 
 -- the names of the indices that have an alias
 abbrev pub index_names_data : List (List ℕ) → Data

@@ -4,16 +4,16 @@
 use Rattle.std.specs.Prelude.{◌≡◌, ℕ, zero, suc, ◌+◌, ◌-◌, ◌==◌, ◌≤◌, ◌&&◌, Bool, true, false, not, List, ◌∷◌, Option, Some, None, count_by, drop, find, is_some, length, nat_lt, option_map, slice_get, take, IsTrue}
 use Rattle.std.specs.List.{AllByRecursion, list_all, list_any}
 use Rattle.meta_state.specs.declared.predicates.Pred.{Pred}
-use Rattle.meta_state.specs.declared.states.ClusterState.{ClusterState}
+use Rattle.meta_state.specs.declared.cluster_state.ClusterState.{ClusterState}
 use Rattle.meta_state.specs.Predicates.{is_met}
-use Rattle.executors.specs.declared.scripts.Script.{Script}
-use Rattle.executors.specs.declared.steps.Goal.TheVariants as goal
-use Rattle.executors.specs.declared.steps.Step.{Step}
-use Rattle.executors.specs.declared.steps.Step.TheVariants as step
+use Rattle.scripts.specs.declared.whole_script.Script.{Script}
+use Rattle.scripts.specs.declared.steps.Goal.TheVariants as goal
+use Rattle.scripts.specs.declared.steps.Step.{Step}
+use Rattle.scripts.specs.declared.steps.Step.TheVariants as step
 use Rattle.session_law.specs.declared.batches.Batch.{Batch}
-use Rattle.session_law.specs.declared.watchings.Watch.{Watch}
-use Rattle.session_law.specs.declared.watchings.WatchEnd.{WatchEnd}
-use Rattle.session_law.specs.declared.watchings.WatchEnd.TheVariants as end
+use Rattle.session_law.specs.declared.watches.Watch.{Watch}
+use Rattle.session_law.specs.declared.watches.WatchEnd.{WatchEnd}
+use Rattle.session_law.specs.declared.watches.WatchEnd.TheVariants as end
 use Rattle.session_law.specs.DueTimes.{due}
 use Rattle.session_law.specs.Histories.{step_at}
 use Rattle.session_law.specs.NodeRecords.{applied_states}
@@ -37,10 +37,10 @@ pred_of (step.Watch node pred thens timeout) part = slice_get (pred ∷ thens) p
 pred_of (step.Next watch pred thens timeout) part = slice_get (pred ∷ thens) part
 pred_of _ part = None
 
-abbrev pub timeout_of : Step → ℕ
-timeout_of (step.Watch node pred thens timeout) = timeout
-timeout_of (step.Next watch pred thens timeout) = timeout
-timeout_of _ = 0
+abbrev pub watch_timeout_of : Step → ℕ
+watch_timeout_of (step.Watch node pred thens timeout) = timeout
+watch_timeout_of (step.Next watch pred thens timeout) = timeout
+watch_timeout_of _ = 0
 
 abbrev pub is_watching : Step → Bool
 is_watching (step.Watch node pred thens timeout) = true
@@ -77,9 +77,9 @@ abbrev pub answer_of : WatchEnd → Option ℕ
 answer_of (end.Answered version) = Some version
 answer_of _ = None
 
-abbrev pub is_timeout : WatchEnd → Bool
-is_timeout (end.Timeout deadline reading) = true
-is_timeout _ = false
+abbrev pub has_timed_out : WatchEnd → Bool
+has_timed_out (end.Timeout deadline reading) = true
+has_timed_out _ = false
 
 -- the place of the final state that a part is shown
 abbrev pub final_place : Watch → ℕ
@@ -118,7 +118,7 @@ abbrev pub IsPartEnd : Script → List ClusterState → Step → Pred → Watch 
 IsPartEnd script states step pred watch (end.Answered version) =
     IsAnsweredBy watch.last pred version (slice_get states (final_place watch))
 IsPartEnd script states step pred watch (end.Timeout deadline reading) =
-    (deadline ≡ due watch.at (timeout_of step)) × (deadline ≤ reading)
+    (deadline ≡ due watch.at (watch_timeout_of step)) × (deadline ≤ reading)
 IsPartEnd script states step pred watch (end.Closed client number) =
     IsTrue (is_close_at script client number) × (is_named_before_close script watch.client watch.step ≡ false)
 
@@ -135,7 +135,7 @@ pub record IsPart (script : Script) (watches : List Watch) (states : List Cluste
   pub within : watch.place + watch.shown ≤ length states
   pub passed : IsTrue (list_all (λ s. not (is_hit_by watch.last pred s)) (passed_by states watch))
   pub ends : IsPartEnd script states step pred watch watch.end
-  pub after_close : is_after_close script watch.client watch.step ≡ true → (watch.shown ≡ 1) × (is_timeout watch.end ≡ false)
+  pub after_close : is_after_close script watch.client watch.step ≡ true → (watch.shown ≡ 1) × (has_timed_out watch.end ≡ false)
 
 abbrev pub IsPartWith : Script → List Watch → List ClusterState → Step → Watch → Option Pred → Type 0
 IsPartWith script watches states step watch None = ⊥

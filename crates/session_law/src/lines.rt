@@ -1,10 +1,11 @@
 ghost use Rattle.std.specs.Prelude.{◌≡◌, ◌++◌, ◌+◌, ◌<◌, ◌^◌, OnOk, length, string_bytes};
 ghost use Rattle.session_law.specs.Lines.{batch_line, batch_lines, end_text, failure_text, reply_line, reply_lines, result_text, state_line};
 
+use crate::TaskEnd;
 use crate::batches::{Batch, BatchResult};
 use crate::joining::write_entries;
 use crate::replies::Reply;
-use executors::{TaskEnd, TaskRefusal};
+use executors::TaskRefusal;
 use meta_state::{ClusterState, to_json};
 use plain_data::OutOfMemory;
 use std::alloc::Global;

@@ -2,21 +2,12 @@ ghost use Rattle.std.specs.Prelude.{◌≡◌, ◌++◌, IfOk, OnOk, string_byte
 ghost use Rattle.session_law.specs.NodeLines.{applied_to, applied_versions, apply_end_text, apply_line, apply_lines, change_text, has_applied, named_text, node_head, node_lines, node_text, phases_text, view_line};
 
 use crate::joining::{write_names, write_numbers};
-use crate::records::{Apply, ApplyEnd, Change, NodeRec, View};
-use crate::viewing::view_text;
+use crate::node_records::{Apply, ApplyEnd, Change, NodeRec, View};
+use crate::view_json::view_text;
 use plain_data::{OutOfMemory, Text};
 use std::alloc::Global;
 
 // Each function adds its piece of the report to `out`. After want of memory `out` is to be given up.
-
-pub(crate) fn is_applied(end: &ApplyEnd) -> bool
-    ensures { result ≡ has_applied end.now }
-{
-    match end {
-        ApplyEnd::Failed => false,
-        ApplyEnd::Applied { .. } => true,
-    }
-}
 
 /// The version that a node began with, and those that it applied.
 fn applied_by(alloc: Global, node: &NodeRec) -> Result<Vec<u64>, OutOfMemory>
@@ -25,7 +16,7 @@ fn applied_by(alloc: Global, node: &NodeRec) -> Result<Vec<u64>, OutOfMemory>
     let mut made = Vec::new(alloc);
     made.push(node.first)?;
     for apply in node.applies.as_slice() {
-        if is_applied(&apply.end) {
+        if apply.end.has_applied() {
             made.push(apply.to)?;
         }
     }

@@ -1,4 +1,4 @@
-use executors::TaskEnd;
+use crate::TaskEnd;
 
 /// How a task ended, as its client was told.
 #[derive(Clone, Copy, Debug, PartialEq, Eq)]

@@ -2,9 +2,9 @@ ghost use Rattle.std.specs.Prelude.{◌≡◌, ◌++◌, IfOk, OnOk, Some, strin
 ghost use Rattle.session_law.specs.ReplyLines.{ack_end_text, ack_line, ack_lines, found_text, last_text, open_word, read_line, read_lines, text_json, timeout_text, watch_end_text, watch_line, watch_lines};
 
 use crate::joining::write_names;
-use crate::looks::Read;
+use crate::reads::Read;
 use crate::replies::{AckEnd, AckReply};
-use crate::watchings::{Watch, WatchEnd};
+use crate::watches::{Watch, WatchEnd};
 use meta_state::Found;
 use plain_data::{OutOfMemory, Text};
 use serde_json::Value;

@@ -1,8 +1,8 @@
 use crate::batches::Batch;
-use crate::looks::Read;
-use crate::records::NodeRec;
+use crate::node_records::NodeRec;
+use crate::reads::Read;
 use crate::replies::{AckReply, Reply};
-use crate::watchings::Watch;
+use crate::watches::Watch;
 use meta_state::ClusterState;
 use plain_data::Items;
 

@@ -1,5 +1,5 @@
+use crate::TaskEnd;
 use crate::batches::BatchResult;
-use executors::TaskEnd;
 use meta_state::ClusterState;
 use plain_data::Items;
 

@@ -1,7 +1,7 @@
 use Rattle.std.proofs.Common.{◌≡◌, drop, []}
 use Rattle.std.specs.Prelude.{map, IsTrue}
 use Rattle.serde_json.specs.View.{view}
-use Rattle.executors.specs.Scripts.{are_asked}
+use Rattle.scripts.specs.Scripts.{are_asked}
 use Rattle.script_form.specs.Casts.{cast}
 use Rattle.script_form.specs.Parts.{each}
 use Rattle.script_form.specs.Steps.{next_asked}

@@ -2,7 +2,7 @@ use Rattle.std.proofs.Common.{◌≡◌, drop, length, []}
 use Rattle.std.specs.Prelude.{map, IsTrue, ◌||◌}
 use Rattle.std.specs.List.{list_any}
 use Rattle.serde_json.specs.View.{view}
-use Rattle.executors.specs.Scripts.{are_steps, is_close}
+use Rattle.scripts.specs.Scripts.{are_steps, is_close}
 use Rattle.script_form.specs.Casts.{cast}
 use Rattle.script_form.specs.Clients.{IsClosedOnce, next_step}
 use Rattle.script_form.specs.Parts.{each}

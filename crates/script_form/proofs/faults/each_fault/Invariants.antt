@@ -2,7 +2,7 @@ use Rattle.std.proofs.Common.{◌≡◌, drop, length, []}
 use Rattle.std.specs.Prelude.{map, IsTrue}
 use Rattle.std.specs.List.{list_all}
 use Rattle.serde_json.specs.View.{view}
-use Rattle.executors.specs.Scripts.{are_faults_distinct, is_fault}
+use Rattle.scripts.specs.Scripts.{are_faults_distinct, is_fault}
 use Rattle.script_form.specs.Casts.{cast}
 use Rattle.script_form.specs.Faults.{next_fault}
 use Rattle.script_form.specs.Parts.{each}

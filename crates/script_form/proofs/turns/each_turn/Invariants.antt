@@ -2,7 +2,7 @@ use Rattle.std.proofs.Common.{◌≡◌, drop, length, []}
 use Rattle.std.specs.Prelude.{map, IsTrue}
 use Rattle.std.specs.List.{list_all}
 use Rattle.serde_json.specs.View.{view}
-use Rattle.executors.specs.Scripts.{is_turn}
+use Rattle.scripts.specs.Scripts.{is_turn}
 use Rattle.script_form.specs.Casts.{cast}
 use Rattle.script_form.specs.Parts.{each}
 use Rattle.script_form.specs.Turns.{next_turn}

@@ -1,7 +1,7 @@
 use Rattle.std.proofs.Common.{◌≡◌, sym, ◌∙◌, ap, subst, arith, length, List, true, Option}
 use Rattle.std.specs.List.{list_all}
 use Rattle.std.specs.Option.{option_copied}
-use Rattle.executors.specs.declared.queues.QueueSpec.{QueueSpec}
+use Rattle.scripts.specs.declared.queues.QueueSpec.{QueueSpec}
 use Rattle.executors.specs.declared.tasks.Task.{Task}
 use Rattle.executors.specs.Kinds.{accepts}
 use Rattle.session_law.specs.Histories.{tasks_at}

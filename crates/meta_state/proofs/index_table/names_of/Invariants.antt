@@ -1,0 +1,7 @@
+use Rattle.std.proofs.Common.{◌≡◌, ◌++◌}
+use Rattle.std.specs.Map.{keys_of}
+use Rattle.meta_state.proofs.index_table.names_of.Given as goal
+
+-- the names so far and those that are left are all
+abbrev pub invariant-loop-name : goal.invariant-loop-name
+invariant-loop-name l = l.made ++ keys_of l.name-iterator ≡ keys_of l.fn.names

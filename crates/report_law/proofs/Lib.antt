@@ -1,0 +1,17 @@
+pub mod AckTexts
+pub mod BatchTexts
+pub mod Joined
+pub mod JsonData
+pub mod JsonLists
+pub mod JsonMaps
+pub mod JsonStrings
+pub mod LineLists
+pub mod NodeTexts
+pub mod ReadTexts
+pub mod ReportTexts
+pub mod Rising
+pub mod Runs
+pub mod StateTexts
+pub mod TaskTexts
+pub mod Telling
+pub mod ViewTexts

@@ -1,5 +1,0 @@
-use Rattle.session_law.proofs.TroubledRules as law
-use Rattle.session_law.proofs.laws.troubled_session_is_lawful.Goals as goal
-
-pub returns : goal.returns
-returns c = law.troubled_session_is_lawful

@@ -1,0 +1,10 @@
+use Rattle.std.proofs.Common.{◌≡◌}
+use Rattle.serde_json.specs.Data.{no_members}
+use Rattle.meta_state.specs.Json.{count}
+use Rattle.serde_json.specs.View.{members_view}
+use Rattle.meta_state.specs.Json.{with_members}
+use Rattle.session_law.proofs.view_json.ids_value.Given as goal
+
+-- to put in what is left leads where putting in all would
+abbrev pub invariant-loop-name : goal.invariant-loop-name
+invariant-loop-name l = with_members count l.name-iterator (members_view l.members.entries) ≡ with_members count l.fn.ids no_members
