@@ -1,4 +1,4 @@
-ghost use Rattle.session_law.specs.Laws.{AnswersAreFirstHits, AppliedWasHanded, OthersKeepTheState, TasksStandOnce, VersionsAreInOrder};
+ghost use Rattle.session_law.specs.Laws.{AnswersAreFirstHits, AppliedWasHanded, OthersKeepTheState, TasksStandOnce, VersionsAreInOrder, ViewsAgreeWithLooks};
 
 // Laws over the definitions: each function does nothing, and its contract is the law.
 
@@ -26,4 +26,9 @@ pub fn answers_are_first_hits()
 /// What a node applied after its first state is a part, in order, of what it was handed.
 pub fn applied_was_handed()
     ensures { AppliedWasHanded }
+{}
+
+/// Under each alias a view keeps the names that a look at it finds.
+pub fn views_agree_with_looks()
+    ensures { ViewsAgreeWithLooks }
 {}
