@@ -8,10 +8,10 @@ ghost use Rattle.master_run.specs.Rooms.{CanCount, HasRoom};
 
 use crate::publications::{commits, publish_to};
 use executors::{Executed, Executor, Kind, Mark, Task, Verdict, number};
-use scripts::Script;
-use session_law::{BatchResult, Reach, TaskEnd, World};
 use meta_state::{ClusterState, Next, next_state};
 use plain_data::{Items, OutOfMemory};
+use scripts::Script;
+use session_law::{BatchResult, Reach, TaskEnd, World};
 use std::alloc::Global;
 
 /// What came of a batch: its result, how each of its tasks ended, and the world after it where it isn't the one

@@ -7,10 +7,10 @@ ghost use Rattle.master_run.specs.Books.{IsKeptBook, added, first_book};
 use crate::batch_runs::run_batch;
 use crate::first_worlds::open_world;
 use executors::Task;
-use scripts::{QueueSpec, Script, Step};
-use session_law::{Batch, Entry, TaskEnd, World};
 use meta_state::ClusterState;
 use plain_data::{Items, OutOfMemory};
+use scripts::{QueueSpec, Script, Step};
+use session_law::{Batch, Entry, TaskEnd, World};
 use std::alloc::Global;
 use std::marker::Model;
 

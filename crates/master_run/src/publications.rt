@@ -4,9 +4,9 @@ ghost use Rattle.plain_data.specs.Pairs.{lookup};
 ghost use Rattle.session_law.specs.Publications.{cut_by, electorate, does_commit, fault_at, is_eligible, is_fault_at, is_sent_diff, missed, passed_over, reach_all, reach_more, reach_none, reached};
 ghost use Rattle.master_run.specs.Rooms.{CanCount, CanSend, RisesByOne};
 
-use scripts::{Fault, FaultKind, Script};
 use meta_state::{ClusterState, NodeInfo};
 use plain_data::{Items, Map, OutOfMemory, Text};
+use scripts::{Fault, FaultKind, Script};
 use session_law::{NodeWorld, Reach, World};
 use std::alloc::Global;
 

@@ -10,8 +10,8 @@ ghost use Rattle.master_run.specs.Turns.{awaited_by, client_turn, first_replay, 
 use crate::books::{Book, BookEnd};
 use crate::tellings::Told;
 use crate::waitings::{Parted, Waiting, entries_of, next_queue, part};
-use scripts::{Goal, Script, Step};
 use plain_data::{Items, OutOfMemory};
+use scripts::{Goal, Script, Step};
 use session_law::{Entry, Session};
 use std::alloc::Global;
 

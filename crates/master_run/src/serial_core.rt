@@ -7,8 +7,8 @@ ghost use Rattle.master_run.specs.Singles.{AreSingles};
 ghost use Rattle.master_run.specs.Soundness.{IsSound};
 
 use crate::replays::Replay;
-use scripts::Script;
 use plain_data::OutOfMemory;
+use scripts::Script;
 use session_law::Session;
 use std::alloc::Global;
 
