@@ -1,5 +1,6 @@
 pub mod Books
 pub mod Outcomes
+pub mod Publishing
 pub mod Replays
 pub mod Rests
 pub mod Rooms

@@ -20,7 +20,7 @@ use Rattle.session_law.specs.DueTimes.{due}
 use Rattle.session_law.specs.Histories.{commit_of, step_at}
 use Rattle.session_law.specs.NodeRecords.{applied_by}
 use Rattle.session_law.specs.Outcomes.{batch_of, outcome_of}
-use Rattle.session_law.specs.ScriptSteps.{numbered_steps}
+use Rattle.session_law.specs.ScriptSteps.{is_at, numbered_steps}
 
 -- the acknowledgement that a step asks for
 abbrev pub ack_of : Option Step → Option Ack
@@ -99,10 +99,7 @@ abbrev pub is_acked_step : Script → List Batch → ℕ → ℕ → Bool
 is_acked_step script batches client step =
     does_ask (ack_of (step_at script client step)) && is_success (outcome_of script batches client step)
 
-abbrev pub is_ack_to : ℕ → ℕ → AckReply → Bool
-is_ack_to client step reply = (reply.client == client) && (reply.step == step)
-
 -- each step that asks, and whose task succeeded, has one acknowledgement, and there are no others
 pub record IsAcknowledged (script : Script) (batches : List Batch) (acks : List AckReply) : Type 0 where
   pub answered : AllByRecursion (λ a. IsAckReply script batches a (ack_of (step_at script a.client a.step))) acks
-  pub once : AllByRecursion (λ s. is_acked_step script batches s.client s.number ≡ true → count_by (is_ack_to s.client s.number) acks ≡ 1) (numbered_steps script)
+  pub once : AllByRecursion (λ s. is_acked_step script batches s.client s.number ≡ true → count_by (λ a. is_at s.client s.number a.client a.step) acks ≡ 1) (numbered_steps script)

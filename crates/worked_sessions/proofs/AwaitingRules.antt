@@ -11,7 +11,7 @@ use Rattle.report_law.specs.GoodForm.{IsGoodForm}
 use Rattle.session_law.specs.Lawful.{AreInOrder, IsLawful}
 use Rattle.worked_sessions.specs.WorkedLaws.{AreAwaitingUnlawful, IsWorked}
 use Rattle.session_law.specs.NodeRecords.{node_record}
-use Rattle.session_law.specs.Publications.{reach_all}
+use Rattle.session_law.specs.Publications.{reach_of}
 use Rattle.session_law.specs.BatchSteps.{batch_step}
 use Rattle.session_law.specs.Views.{views_of}
 use Rattle.session_law.specs.Worlds.{first_world}
@@ -20,7 +20,7 @@ order : AreInOrder awaiting_session
 order = record { replies = refl; acks = refl; watches = refl; reads = refl }
 
 lawful : IsLawful awaiting_script awaiting_session
-unfolding first_world batch_step reach_all executed folded task_outcome node_record change_between views_of
+unfolding first_world batch_step reach_of executed folded task_outcome node_record change_between views_of
 lawful = record {
   serial = record {
     serial = record {

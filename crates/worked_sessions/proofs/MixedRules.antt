@@ -18,7 +18,7 @@ use Rattle.session_law.specs.Lawful.{AreInOrder, IsFinal, IsLawful, IsRecorded}
 use Rattle.worked_sessions.specs.WorkedLaws.{AreMixedUnlawful, IsWorked}
 use Rattle.worked_sessions.specs.Mixed.{acknowledging_a_refusal, acknowledging_too_late, applying_after_it_left, awaited_part, beginning_as_a_member, counting_a_node_that_left, mixed_script, mixed_session, publishing_what_agrees, reading_behind_an_awaited_watch, refusing_one_of_a_failed_batch, refusing_the_first, sending_a_new_node_a_diff, using_up_an_identifier, watching_before_the_ack}
 use Rattle.session_law.specs.NodeRecords.{node_record}
-use Rattle.session_law.specs.Publications.{reach_all}
+use Rattle.session_law.specs.Publications.{reach_of}
 use Rattle.session_law.specs.Reads.{IsPlaced, IsRead, is_all}
 use Rattle.session_law.specs.SerialHistories.{IsSerialHistory}
 use Rattle.session_law.specs.BatchSteps.{batch_step}
@@ -28,7 +28,7 @@ use Rattle.session_law.specs.Watches.{IsWatched, passed_by, states_at}
 use Rattle.session_law.specs.Worlds.{first_world}
 
 serial : IsSerialHistory mixed_script mixed_session.batches
-unfolding first_world batch_step reach_all executed folded task_outcome
+unfolding first_world batch_step reach_of executed folded task_outcome
 serial = record {
   serial = record {
     results = (refl, (refl, (refl, (refl, (refl, tt)))));
@@ -59,7 +59,7 @@ serial = record {
 }
 
 ended : EndsOnce mixed_script mixed_session.batches mixed_session.replies
-unfolding first_world batch_step reach_all executed folded task_outcome
+unfolding first_world batch_step reach_of executed folded task_outcome
 ended = record {
   ended = (
     record { submit = refl; end = refl; after_close = never },
@@ -84,14 +84,14 @@ ended = record {
 }
 
 acknowledged : IsAcknowledged mixed_script mixed_session.batches mixed_session.acks
-unfolding first_world batch_step reach_all executed folded task_outcome
+unfolding first_world batch_step reach_of executed folded task_outcome
 acknowledged = record {
   answered = (refl, (refl, (refl, tt)));
   once = (never, ((λ _. refl), (never, (never, (never, (never, (never, (never, (never, ((λ _. refl), (never, ((λ _. refl), tt))))))))))));
 }
 
 watched : IsWatched mixed_script mixed_session.batches mixed_session.watches
-unfolding first_world batch_step reach_all executed folded task_outcome
+unfolding first_world batch_step reach_of executed folded task_outcome
 watched = record {
   parts = (
     record {
@@ -110,18 +110,18 @@ watched = record {
 }
 
 read : IsRead mixed_script mixed_session
-unfolding first_world batch_step reach_all executed folded task_outcome found_at
+unfolding first_world batch_step reach_of executed folded task_outcome found_at
 read = record {
   found = ((refl, (at_most _ _ refl, refl)), ((refl, (at_most _ _ refl, refl)), tt));
   once = ((λ _. refl), (never, (never, (never, (never, (never, ((λ _. refl), (never, (never, (never, (never, (never, tt))))))))))));
 }
 
 placed : AllByRecursion (IsPlaced mixed_script mixed_session) mixed_session.watches
-unfolding first_world batch_step reach_all executed folded task_outcome
+unfolding first_world batch_step reach_of executed folded task_outcome
 placed = ((λ _. at_most _ _ refl), tt)
 
 recorded : IsRecorded mixed_script mixed_session
-unfolding first_world batch_step reach_all executed folded task_outcome node_record change_between views_of
+unfolding first_world batch_step reach_of executed folded task_outcome node_record change_between views_of
 recorded = record {
   each = (refl, (refl, tt));
   known = (refl, (refl, tt));
@@ -131,7 +131,7 @@ order : AreInOrder mixed_session
 order = record { replies = refl; acks = refl; watches = refl; reads = refl }
 
 final : IsFinal mixed_script mixed_session
-unfolding first_world batch_step reach_all executed folded task_outcome
+unfolding first_world batch_step reach_of executed folded task_outcome
 final = record { last = refl; order = order; nodes = refl }
 
 lawful : IsLawful mixed_script mixed_session
@@ -167,51 +167,51 @@ is_refused (end.Refused refusal) = true
 is_refused _ = false
 
 sends_a_new_node_a_diff : ¬ IsLawful mixed_script sending_a_new_node_a_diff
-unfolding first_world batch_step reach_all executed folded task_outcome
+unfolding first_world batch_step reach_of executed folded task_outcome
 sends_a_new_node_a_diff h = unequal 2 1 refl (ap diffs_in h.serial.serial.results.0)
 
 publishes_what_agrees : ¬ IsLawful mixed_script publishing_what_agrees
-unfolding first_world batch_step reach_all executed folded task_outcome
+unfolding first_world batch_step reach_of executed folded task_outcome
 publishes_what_agrees h = never (sym (ap is_published h.serial.serial.results.1.1.1.0))
 
 uses_up_an_identifier : ¬ IsLawful mixed_script using_up_an_identifier
-unfolding first_world batch_step reach_all executed folded task_outcome
+unfolding first_world batch_step reach_of executed folded task_outcome
 uses_up_an_identifier h = unequal 5 4 refl (ap id_in h.serial.serial.results.1.1.1.1.0)
 
 counts_a_node_that_left : ¬ IsLawful mixed_script counting_a_node_that_left
-unfolding first_world batch_step reach_all executed folded task_outcome
+unfolding first_world batch_step reach_of executed folded task_outcome
 counts_a_node_that_left h = unequal 2 1 refl (ap diffs_in h.serial.serial.results.1.1.1.1.0)
 
 refuses_the_first : ¬ IsLawful mixed_script refusing_the_first
-unfolding first_world batch_step reach_all executed folded task_outcome
+unfolding first_world batch_step reach_of executed folded task_outcome
 refuses_the_first h = never (ap is_ok h.ended.ended.1.0.end)
 
 refuses_one_of_a_failed_batch : ¬ IsLawful mixed_script refusing_one_of_a_failed_batch
-unfolding first_world batch_step reach_all executed folded task_outcome is_refused
+unfolding first_world batch_step reach_of executed folded task_outcome is_refused
 refuses_one_of_a_failed_batch h = never (sym (ap is_refused h.ended.ended.1.1.1.0.end))
 
 acknowledges_a_refusal : ¬ IsLawful mixed_script acknowledging_a_refusal
-unfolding first_world batch_step reach_all executed folded task_outcome
+unfolding first_world batch_step reach_of executed folded task_outcome
 acknowledges_a_refusal h = h.acknowledged.answered.1.0
 
 acknowledges_too_late : ¬ IsLawful mixed_script acknowledging_too_late
-unfolding first_world batch_step reach_all executed folded task_outcome
+unfolding first_world batch_step reach_of executed folded task_outcome
 acknowledges_too_late h = never (sym (ap is_all h.acknowledged.answered.1.1.0))
 
 watches_before_the_ack : ¬ IsLawful mixed_script watching_before_the_ack
-unfolding first_world batch_step reach_all executed folded task_outcome
+unfolding first_world batch_step reach_of executed folded task_outcome
 watches_before_the_ack h = beyond 2 0 refl (h.placed.0 refl)
 
 reads_behind_an_awaited_watch : ¬ IsLawful mixed_script reading_behind_an_awaited_watch
-unfolding first_world batch_step reach_all executed folded task_outcome
+unfolding first_world batch_step reach_of executed folded task_outcome
 reads_behind_an_awaited_watch h = beyond 3 2 refl h.read.found.1.0.1.0
 
 begins_as_a_member : ¬ IsLawful mixed_script beginning_as_a_member
-unfolding first_world batch_step reach_all executed folded task_outcome node_record
+unfolding first_world batch_step reach_of executed folded task_outcome node_record
 begins_as_a_member h = unequal 1 0 refl (ap first_in h.recorded.each.1.0)
 
 applies_after_it_left : ¬ IsLawful mixed_script applying_after_it_left
-unfolding first_world batch_step reach_all executed folded task_outcome node_record
+unfolding first_world batch_step reach_of executed folded task_outcome node_record
 applies_after_it_left h = unequal 4 3 refl (ap applied_in h.recorded.each.1.0)
 
 pub changed_mixed_sessions_are_unlawful : AreMixedUnlawful

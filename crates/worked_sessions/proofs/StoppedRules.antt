@@ -14,7 +14,7 @@ use Rattle.report_law.specs.GoodForm.{IsGoodForm}
 use Rattle.session_law.specs.Lawful.{AreInOrder, IsFinal, IsLawful, IsRecorded}
 use Rattle.worked_sessions.specs.WorkedLaws.{AreStoppedUnlawful, IsWorked}
 use Rattle.session_law.specs.NodeRecords.{node_record}
-use Rattle.session_law.specs.Publications.{reach_all}
+use Rattle.session_law.specs.Publications.{reach_of}
 use Rattle.session_law.specs.Reads.{IsPlaced, IsRead}
 use Rattle.session_law.specs.SerialHistories.{IsSerialHistory}
 use Rattle.session_law.specs.BatchSteps.{batch_step}
@@ -25,7 +25,7 @@ use Rattle.session_law.specs.Watches.{IsWatched, passed_by, states_at}
 use Rattle.session_law.specs.Worlds.{first_world}
 
 serial : IsSerialHistory stopped_script stopped_session.batches
-unfolding first_world batch_step reach_all executed folded task_outcome
+unfolding first_world batch_step reach_of executed folded task_outcome
 serial = record {
   serial = record {
     results = (refl, (refl, tt));
@@ -38,7 +38,7 @@ serial = record {
 }
 
 ended : EndsOnce stopped_script stopped_session.batches stopped_session.replies
-unfolding first_world batch_step reach_all executed folded task_outcome
+unfolding first_world batch_step reach_of executed folded task_outcome
 ended = record {
   ended = (
     record { submit = refl; end = refl; after_close = never },
@@ -66,7 +66,7 @@ acknowledged = record {
 }
 
 watched : IsWatched stopped_script stopped_session.batches stopped_session.watches
-unfolding first_world batch_step reach_all executed folded task_outcome
+unfolding first_world batch_step reach_of executed folded task_outcome
 watched = record {
   parts = (
     record { begins = refl; shown = omega arith; within = at_most _ _ refl; passed = lacked (codes "a") (passed_by (states_at stopped_script stopped_batches 0 2) answered_part) refl; ends = (met_index _ _, refl); after_close = never },
@@ -93,18 +93,18 @@ watched = record {
 }
 
 read : IsRead stopped_script stopped_session
-unfolding first_world batch_step reach_all executed folded task_outcome found_at
+unfolding first_world batch_step reach_of executed folded task_outcome found_at
 read = record {
   found = ((refl, (at_most _ _ refl, refl)), tt);
   once = (never, (never, (never, (never, (never, ((λ _. refl), (never, (never, (never, (never, (never, (never, tt))))))))))));
 }
 
 placed : AllByRecursion (IsPlaced stopped_script stopped_session) stopped_session.watches
-unfolding first_world batch_step reach_all executed folded task_outcome
+unfolding first_world batch_step reach_of executed folded task_outcome
 placed = ((λ _. at_most _ _ refl), ((λ _. at_most _ _ refl), ((λ _. at_most _ _ refl), ((λ _. at_most _ _ refl), ((λ _. at_most _ _ refl), ((λ _. at_most _ _ refl), tt))))))
 
 recorded : IsRecorded stopped_script stopped_session
-unfolding first_world batch_step reach_all executed folded task_outcome node_record change_between views_of
+unfolding first_world batch_step reach_of executed folded task_outcome node_record change_between views_of
 recorded = record {
   each = (refl, (refl, tt));
   known = (refl, (refl, tt));
@@ -114,7 +114,7 @@ order : AreInOrder stopped_session
 order = record { replies = refl; acks = refl; watches = refl; reads = refl }
 
 final : IsFinal stopped_script stopped_session
-unfolding first_world batch_step reach_all executed folded task_outcome
+unfolding first_world batch_step reach_of executed folded task_outcome
 final = record { last = refl; order = order; nodes = refl }
 
 lawful : IsLawful stopped_script stopped_session
@@ -146,14 +146,14 @@ stopped_session_is_lawful = record { valid = stopped_valid; lawful = lawful; goo
 -- ---- what the rules leave open
 
 ended_by_closing : EndsOnce stopped_script timing_out_on_a_hit.batches timing_out_on_a_hit.replies
-unfolding first_world batch_step reach_all executed folded task_outcome
+unfolding first_world batch_step reach_of executed folded task_outcome
 ended_by_closing = record {
   ended = (ended.ended.0, (record { submit = refl; end = (refl, refl); after_close = never }, ended.ended.1.1));
   once = ended.once;
 }
 
 watched_on_a_hit : IsWatched stopped_script timing_out_on_a_hit.batches timing_out_on_a_hit.watches
-unfolding first_world batch_step reach_all executed folded task_outcome
+unfolding first_world batch_step reach_of executed folded task_outcome
 watched_on_a_hit = record {
   parts = (
     record { begins = refl; shown = omega arith; within = at_most _ _ refl; passed = lacked (codes "a") (passed_by (states_at stopped_script stopped_batches 0 2) answered_part) refl; ends = (refl, omega arith); after_close = never },
@@ -177,14 +177,14 @@ watched_on_a_hit = record {
 }
 
 read_after_a_timeout : IsRead stopped_script timing_out_on_a_hit
-unfolding first_world batch_step reach_all executed folded task_outcome found_at
+unfolding first_world batch_step reach_of executed folded task_outcome found_at
 read_after_a_timeout = record {
   found = ((refl, (at_most _ _ refl, refl)), tt);
   once = (never, (never, (never, (never, (never, ((λ _. refl), (never, (never, (never, (never, (never, (never, tt))))))))))));
 }
 
 placed_after_a_timeout : AllByRecursion (IsPlaced stopped_script timing_out_on_a_hit) timing_out_on_a_hit.watches
-unfolding first_world batch_step reach_all executed folded task_outcome
+unfolding first_world batch_step reach_of executed folded task_outcome
 placed_after_a_timeout = ((λ _. at_most _ _ refl), ((λ _. at_most _ _ refl), ((λ _. at_most _ _ refl), ((λ _. at_most _ _ refl), ((λ _. at_most _ _ refl), tt)))))
 
 pub timing_out_on_a_hit_is_lawful : IsLawful stopped_script timing_out_on_a_hit
@@ -209,7 +209,7 @@ times_out_early : ¬ IsLawful stopped_script timing_out_early
 times_out_early h = beyond 11 10 refl h.ended.ended.1.0.end.1.1
 
 runs_what_timed_out : ¬ IsLawful stopped_script running_what_timed_out
-unfolding first_world batch_step reach_all executed folded task_outcome
+unfolding first_world batch_step reach_of executed folded task_outcome
 runs_what_timed_out h = never (ap is_ok h.ended.ended.1.0.end)
 
 begins_a_place_late : ¬ IsLawful stopped_script beginning_a_place_late
@@ -219,7 +219,7 @@ leaves_the_second_part : ¬ IsLawful stopped_script leaving_the_second_part
 leaves_the_second_part h = never (h.watched.continued.0 refl)
 
 continues_from_nothing : ¬ IsLawful stopped_script continuing_from_nothing
-unfolding first_world batch_step reach_all executed folded task_outcome
+unfolding first_world batch_step reach_of executed folded task_outcome
 continues_from_nothing h = unequal 0 3 refl (ap (λ last. unwrap_or last 0) h.watched.parts.1.1.0.begins.0)
 
 watches_too_short : ¬ IsLawful stopped_script watching_too_short

@@ -14,7 +14,7 @@ use Rattle.report_law.specs.GoodForm.{IsGoodForm}
 use Rattle.session_law.specs.Lawful.{AreInOrder, IsFinal, IsLawful, IsRecorded}
 use Rattle.worked_sessions.specs.WorkedLaws.{AreTroubledUnlawful, IsWorked}
 use Rattle.session_law.specs.NodeRecords.{node_record}
-use Rattle.session_law.specs.Publications.{reach_all}
+use Rattle.session_law.specs.Publications.{reach_of}
 use Rattle.session_law.specs.Reads.{IsRead}
 use Rattle.session_law.specs.SerialHistories.{IsSerialHistory}
 use Rattle.session_law.specs.BatchSteps.{batch_step}
@@ -25,7 +25,7 @@ use Rattle.session_law.specs.Watches.{IsWatched}
 use Rattle.session_law.specs.Worlds.{first_world}
 
 serial : IsSerialHistory troubled_script troubled_session.batches
-unfolding first_world batch_step reach_all executed folded task_outcome
+unfolding first_world batch_step reach_of executed folded task_outcome
 serial = record {
   serial = record {
     results = (refl, (refl, (refl, (refl, (refl, tt)))));
@@ -53,7 +53,7 @@ serial = record {
 }
 
 ended : EndsOnce troubled_script troubled_session.batches troubled_session.replies
-unfolding first_world batch_step reach_all executed folded task_outcome
+unfolding first_world batch_step reach_of executed folded task_outcome
 ended = record {
   ended = (
     record { submit = refl; end = refl; after_close = never },
@@ -75,7 +75,7 @@ ended = record {
 }
 
 acknowledged : IsAcknowledged troubled_script troubled_session.batches troubled_session.acks
-unfolding first_world batch_step reach_all executed folded task_outcome
+unfolding first_world batch_step reach_of executed folded task_outcome
 acknowledged = record {
   answered = ((refl, omega arith), ((refl, omega arith), tt));
   once = (never, (never, (never, (never, ((λ _. refl), (never, (never, (never, ((λ _. refl), (never, (never, tt)))))))))));
@@ -90,14 +90,14 @@ watched = record {
 }
 
 read : IsRead troubled_script troubled_session
-unfolding first_world batch_step reach_all executed folded task_outcome found_at
+unfolding first_world batch_step reach_of executed folded task_outcome found_at
 read = record {
   found = ((refl, (at_most _ _ refl, refl)), ((refl, (at_most _ _ refl, refl)), ((refl, (at_most _ _ refl, refl)), tt)));
   once = (never, (never, (never, (never, (never, (never, ((λ _. refl), (never, (never, ((λ _. refl), ((λ _. refl), tt)))))))))));
 }
 
 recorded : IsRecorded troubled_script troubled_session
-unfolding first_world batch_step reach_all executed folded task_outcome node_record change_between views_of
+unfolding first_world batch_step reach_of executed folded task_outcome node_record change_between views_of
 recorded = record {
   each = (refl, (refl, (refl, tt)));
   known = (refl, (refl, (refl, tt)));
@@ -107,7 +107,7 @@ order : AreInOrder troubled_session
 order = record { replies = refl; acks = refl; watches = refl; reads = refl }
 
 final : IsFinal troubled_script troubled_session
-unfolding first_world batch_step reach_all executed folded task_outcome
+unfolding first_world batch_step reach_of executed folded task_outcome
 final = record { last = refl; order = order; nodes = refl }
 
 lawful : IsLawful troubled_script troubled_session
@@ -139,11 +139,11 @@ troubled_session_is_lawful = record { valid = troubled_valid; lawful = lawful; g
 -- ---- what the rules leave open
 
 acknowledged_in_time : IsAcknowledged troubled_script acknowledging_in_time.batches acknowledging_in_time.acks
-unfolding first_world batch_step reach_all executed folded task_outcome
+unfolding first_world batch_step reach_of executed folded task_outcome
 acknowledged_in_time = record { answered = ((refl, omega arith), (refl, tt)); once = acknowledged.once }
 
 read_in_time : IsRead troubled_script acknowledging_in_time
-unfolding first_world batch_step reach_all executed folded task_outcome found_at
+unfolding first_world batch_step reach_of executed folded task_outcome found_at
 read_in_time = record {
   found = ((refl, (at_most _ _ refl, refl)), ((refl, (at_most _ _ refl, refl)), ((refl, (at_most _ _ refl, refl)), tt)));
   once = read.once;
@@ -168,51 +168,51 @@ acknowledging_in_time_is_lawful = record {
 -- ---- what is changed breaks a rule
 
 keeps_the_dropped_state : ¬ IsLawful troubled_script keeping_the_dropped_state
-unfolding first_world batch_step reach_all executed folded task_outcome
+unfolding first_world batch_step reach_of executed folded task_outcome
 keeps_the_dropped_state h = unequal 3 2 refl (ap version_in h.serial.serial.results.1.1.0)
 
 reuses_the_identifier : ¬ IsLawful troubled_script reusing_the_identifier
-unfolding first_world batch_step reach_all executed folded task_outcome
+unfolding first_world batch_step reach_of executed folded task_outcome
 reuses_the_identifier h = unequal 2 3 refl (ap id_in h.serial.serial.results.1.1.0)
 
 counts_a_full_as_a_diff : ¬ IsLawful troubled_script counting_a_full_as_a_diff
-unfolding first_world batch_step reach_all executed folded task_outcome
+unfolding first_world batch_step reach_of executed folded task_outcome
 counts_a_full_as_a_diff h = unequal 3 2 refl (ap diffs_in h.serial.serial.results.1.1.0)
 
 runs_out_of_office : ¬ IsLawful troubled_script running_out_of_office
-unfolding first_world batch_step reach_all executed folded task_outcome
+unfolding first_world batch_step reach_of executed folded task_outcome
 runs_out_of_office h = never (sym (ap is_published h.serial.serial.results.1.0))
 
 tells_a_dropped_task_ok : ¬ IsLawful troubled_script telling_a_dropped_task_ok
-unfolding first_world batch_step reach_all executed folded task_outcome
+unfolding first_world batch_step reach_of executed folded task_outcome
 tells_a_dropped_task_ok h = never (sym (ap is_ok h.ended.ended.0.end))
 
 acknowledges_in_full : ¬ IsLawful troubled_script acknowledging_in_full
-unfolding first_world batch_step reach_all executed folded task_outcome
+unfolding first_world batch_step reach_of executed folded task_outcome
 acknowledges_in_full h = unequal 2 0 refl h.acknowledged.answered.0
 
 counts_one_failure : ¬ IsLawful troubled_script counting_one_failure
-unfolding first_world batch_step reach_all executed folded task_outcome
+unfolding first_world batch_step reach_of executed folded task_outcome
 counts_one_failure h = unequal 1 2 refl h.acknowledged.answered.0.0
 
 times_out_an_ack_early : ¬ IsLawful troubled_script timing_out_an_ack_early
-unfolding first_world batch_step reach_all executed folded task_outcome
+unfolding first_world batch_step reach_of executed folded task_outcome
 times_out_an_ack_early h = beyond 15 14 refl h.acknowledged.answered.1.0.1
 
 reads_backwards : ¬ IsLawful troubled_script reading_backwards
-unfolding first_world batch_step reach_all executed folded task_outcome
+unfolding first_world batch_step reach_of executed folded task_outcome
 reads_backwards h = beyond 4 2 refl h.read.found.1.1.0.1.0
 
 reads_a_lost_commit : ¬ IsLawful troubled_script reading_a_lost_commit
-unfolding first_world batch_step reach_all executed folded task_outcome
+unfolding first_world batch_step reach_of executed folded task_outcome
 reads_a_lost_commit h = never h.read.found.0.0
 
 applies_a_lost_commit : ¬ IsLawful troubled_script applying_a_lost_commit
-unfolding first_world batch_step reach_all executed folded task_outcome node_record
+unfolding first_world batch_step reach_of executed folded task_outcome node_record
 applies_a_lost_commit h = unequal 4 3 refl (ap applied_in h.recorded.each.1.0)
 
 applies_in_spite_of_a_fault : ¬ IsLawful troubled_script applying_in_spite_of_a_fault
-unfolding first_world batch_step reach_all executed folded task_outcome node_record
+unfolding first_world batch_step reach_of executed folded task_outcome node_record
 applies_in_spite_of_a_fault h = unequal 4 3 refl (ap applied_in h.recorded.each.1.1.0)
 
 pub changed_troubled_sessions_are_unlawful : AreTroubledUnlawful

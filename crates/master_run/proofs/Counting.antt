@@ -1,15 +1,15 @@
--- What a publication reaches: the fold over the nodes gives the lists and counts that a reader expects.
+-- What a publication reaches: the master's fold over the nodes gives the filters and counts that define it.
 use Rattle.std.specs.Prelude.{◌≡◌, ℕ, ◌+◌, Bool, true, false, not, ◌&&◌, ◌||◌, List, [], ◌∷◌, ◌++◌, count_by, filter, is_some, map, bytes_eq, refl, if◌then◌else◌}
 use Rattle.std.proofs.Common.{sym, ap, ◌∙◌, cond, arith, append_assoc, append-nil}
-use Rattle.std.specs.List.{list_any}
+use Rattle.std.specs.List.{list_any, zip}
 use Rattle.std.proofs.lemmas.List.Sums.{sum_by-cons}
 use Rattle.plain_data.specs.Pairs.{lookup}
 use Rattle.meta_state.specs.declared.cluster_state.ClusterState.{ClusterState}
 use Rattle.scripts.specs.declared.whole_script.ScriptNode.{ScriptNode}
 use Rattle.session_law.specs.declared.worlds.NodeWorld.{NodeWorld}
 use Rattle.session_law.specs.declared.worlds.Reach.{Reach}
-use Rattle.session_law.specs.Laws.{PublicationsAreCounted, counted_on, does_accept, sent_more, sent_on}
-use Rattle.session_law.specs.Publications.{is_eligible, is_sent_diff, missed, one_if, passed_over, reach_all, reach_more, reach_none, reached}
+use Rattle.session_law.specs.Publications.{counted_on, does_accept, is_eligible, is_sent_diff, reach_of, sent_more, sent_on}
+use Rattle.master_run.specs.Publishing.{missed, one_if, passed_over, reach_all, reach_more, reach_none, reached}
 
 -- ---- what is reached, and what is reached besides
 
@@ -146,19 +146,24 @@ first_counted prev new p left more true false = λ i. record {
 
 -- ---- all nodes
 
-counted_besides : (cut : List ℕ → ℕ → Bool) (prev new : ClusterState) (reach : Reach) (nodes : List (ScriptNode × NodeWorld))
-    → reach_all cut prev new reach (map (λ p. p.0) nodes) (map (λ p. p.1) nodes) ≡ besides reach (counted_on cut prev new nodes)
+counted_besides : (cut : List ℕ → ℕ → Bool) (prev new : ClusterState) (reach : Reach) (nodes : List ScriptNode) (have : List NodeWorld)
+    → reach_all cut prev new reach nodes have ≡ besides reach (counted_on cut prev new (zip nodes have))
 unfolding reach_all
-counted_besides cut prev new reach [] = besides_none reach
-counted_besides cut prev new reach (p ∷ ps) =
-    let inside = is_some (lookup p.0.name new.nodes) in
-    let away = cut p.0.name (p.1.sent + 1) in
-    let alone = reach_more cut prev new reach_none p.0.name p.1 in
-    let rest = counted_on cut prev new ps in
-    counted_besides cut prev new (reach_more cut prev new reach p.0.name p.1) ps
-    ∙ ap (λ r. besides r rest) (more_besides inside away (is_sent_diff prev p.0.name p.1) new reach p.0.name p.1)
+counted_besides cut prev new reach [] have = besides_none reach
+counted_besides cut prev new reach (node ∷ nodes) [] = besides_none reach
+counted_besides cut prev new reach (node ∷ nodes) (has ∷ more) =
+    let pairs = zip nodes more in
+    let inside = is_some (lookup node.name new.nodes) in
+    let away = cut node.name (has.sent + 1) in
+    let alone = reach_more cut prev new reach_none node.name has in
+    let rest = counted_on cut prev new pairs in
+    counted_besides cut prev new (reach_more cut prev new reach node.name has) nodes more
+    ∙ ap (λ r. besides r rest) (more_besides inside away (is_sent_diff prev node.name has) new reach node.name has)
     ∙ besides_assoc reach alone rest
-    ∙ ap (besides reach) (sym (first_counted prev new p (filter (does_accept cut new) ps) (map (sent_on cut new) ps) inside away))
+    ∙ ap (besides reach) (sym (first_counted prev new (node, has) (filter (does_accept cut new) pairs) (map (sent_on cut new) pairs) inside away))
 
-pub publications_are_counted : PublicationsAreCounted
-publications_are_counted cut prev new nodes = counted_besides cut prev new reach_none nodes ∙ none_besides (counted_on cut prev new nodes)
+-- what the master adds up is what a publication reaches
+pub reach_all_is_reach_of : (cut : List ℕ → ℕ → Bool) (prev new : ClusterState) (nodes : List ScriptNode) (have : List NodeWorld)
+    → reach_all cut prev new reach_none nodes have ≡ reach_of cut prev new nodes have
+unfolding reach_of
+reach_all_is_reach_of cut prev new nodes have = counted_besides cut prev new reach_none nodes have ∙ none_besides (counted_on cut prev new (zip nodes have))
