@@ -1,5 +1,5 @@
 use Rattle.std.proofs.Common.{◌≡◌, length, map}
-use Rattle.scripts.specs.Scripts.{are_distinct}
+use Rattle.scripts.specs.Names.{are_distinct}
 use Rattle.report_law.proofs.good_forms.are_nodes_distinct.Given as goal
 
 -- all names are distinct exactly where those that are left are
