@@ -14,10 +14,7 @@ use Rattle.meta_state.specs.declared.index_metadata.IndexMetadata.{IndexMetadata
 use Rattle.meta_state.specs.declared.cluster_state.ClusterState.{ClusterState}
 use Rattle.meta_state.specs.Aliases.{is_aliased}
 use Rattle.executors.specs.declared.folds.Ran.{Ran}
-use Rattle.executors.specs.declared.contexts.Mark.{Mark}
 use Rattle.executors.specs.declared.contexts.TaskContext.{TaskContext}
-use Rattle.executors.specs.declared.contexts.Verdict.{Verdict}
-use Rattle.executors.specs.declared.contexts.Verdict.TheVariants.{Success, Refused}
 use Rattle.executors.specs.declared.executions.Executed.{Executed}
 use Rattle.executors.specs.declared.executions.Executed.TheVariants.{Made, Failed}
 use Rattle.executors.specs.declared.kinds.Kind.{Kind}
@@ -26,13 +23,14 @@ use Rattle.executors.specs.declared.tasks.Task.{Task}
 use Rattle.executors.specs.declared.tasks.Task.TheVariants as task
 use Rattle.executors.specs.AliasTasks.{add_refusal, added_at, remove_refusal, removed_at, with_alias, without_alias}
 use Rattle.executors.specs.Contexts.{numbered}
-use Rattle.executors.specs.Executions.{executed, settled, unless_refused, failed_or, failed_by, made_of, folded, ran_none, ran_more}
+use Rattle.executors.specs.Executions.{executed, settled, unless_refused, made_of, folded, ran_none, ran_more}
 use Rattle.executors.specs.IndexTasks.{create_refusal, created_in, new_index, deleted_in, missing_refusal, index_setting_refusal, replicas_at, with_replicas, opened_at, with_opened, with_index}
 use Rattle.executors.specs.Kinds.{is_atomic}
 use Rattle.executors.specs.NodeTasks.{join_refusal, joined_in, leave_refusal, left_in, reelected_in}
 use Rattle.executors.specs.TaskRuns.{task_outcome, alias_outcome, outcome}
 use Rattle.executors.specs.SettingTasks.{setting_refusal, set_in}
 use Rattle.executors.proofs.Rising.{FoundAll, found_in}
+use Rattle.executors.proofs.Settled.{settled_or}
 
 pub record IsCountedIndex (n : ℕ) (index : IndexMetadata) : Type 0 where
   pub version : index.version ≤ n + 1
@@ -203,16 +201,8 @@ abbrev pub IsCountedResult : ℕ → Executed → Type 0
 IsCountedResult n (Made state marks) = IsCountedState n state
 IsCountedResult n (Failed position refusal) = Unit {0}
 
-verdict_counted : (n : ℕ) (verdict : Verdict) (position : ℕ) (rest : Executed) → IsCountedResult n rest → IsCountedResult n (failed_by verdict position rest)
-verdict_counted n Success position rest c = c
-verdict_counted n (Refused refusal) position rest c = tt
-
-failed_counted : (n : ℕ) (marks : List Mark) (made : Executed) → IsCountedResult n made → IsCountedResult n (failed_or marks made)
-failed_counted n [] made c = c
-failed_counted n (mark ∷ marks) made c = verdict_counted n mark.verdict mark.position (failed_or marks made) (failed_counted n marks made c)
-
 either_result : (n : ℕ) (atomic : Bool) (ran : Ran) → IsCountedState n ran.state → IsCountedResult n (if atomic then unless_refused ran else made_of ran)
-either_result n true ran c = failed_counted n ran.marks (made_of ran) c
+either_result n true ran c = settled_or (IsCountedResult n) (λ _ _. tt) ran.marks (made_of ran) c
 either_result n false ran c = c
 
 settled_counted : (n : ℕ) (kind : Kind) (ran : Ran) → IsCountedState n ran.state → IsCountedResult n (settled kind ran)

@@ -8,20 +8,18 @@ use Rattle.meta_state.specs.declared.index_metadata.IndexMetadata.{IndexMetadata
 use Rattle.meta_state.specs.declared.cluster_state.ClusterState.{ClusterState}
 use Rattle.meta_state.specs.Aliases.{is_aliased}
 use Rattle.executors.specs.declared.folds.Ran.{Ran}
-use Rattle.executors.specs.declared.contexts.Mark.{Mark}
 use Rattle.executors.specs.declared.contexts.TaskContext.{TaskContext}
-use Rattle.executors.specs.declared.contexts.Verdict.{Verdict}
-use Rattle.executors.specs.declared.contexts.Verdict.TheVariants.{Success, Refused}
 use Rattle.executors.specs.declared.executions.Executed.{Executed}
 use Rattle.executors.specs.declared.refusals.TaskRefusal.{TaskRefusal}
 use Rattle.executors.specs.declared.tasks.Task.{Task}
 use Rattle.executors.specs.declared.tasks.Task.TheVariants as task
 use Rattle.executors.specs.AliasTasks.{add_refusal, added_at, remove_refusal, removed_at, with_alias}
-use Rattle.executors.specs.Executions.{unless_refused, failed_or, failed_by, made_of, folded, ran_none, ran_more, HasVersionsOf, KeepsVersions}
+use Rattle.executors.specs.Executions.{unless_refused, made_of, folded, ran_none, ran_more, HasVersionsOf, KeepsVersions}
 use Rattle.executors.specs.IndexTasks.{create_refusal, created_in, deleted_in, missing_refusal, index_setting_refusal, replicas_at, with_replicas, opened_at, with_opened, with_index}
 use Rattle.executors.specs.NodeTasks.{join_refusal, joined_in, leave_refusal, left_in}
 use Rattle.executors.specs.TaskRuns.{task_outcome, alias_outcome, outcome}
 use Rattle.executors.specs.SettingTasks.{setting_refusal, set_in}
+use Rattle.executors.proofs.Settled.{settled_or}
 
 same_versions : (state changed : ClusterState) → changed.id ≡ state.id → changed.version ≡ state.version → changed.metadata.version ≡ state.metadata.version → HasVersionsOf state changed
 same_versions state changed id version metadata_version = record { id = id; version = version; metadata_version = metadata_version }
@@ -79,19 +77,11 @@ folded_keeps ran [] = same_versions ran.state ran.state refl refl refl
 folded_keeps ran (context ∷ contexts) =
     then_versions _ _ _ (task_keeps ran.state context.task) (folded_keeps (ran_more ran context) contexts)
 
-verdict_keeps : (old : ClusterState) (verdict : Verdict) (position : ℕ) (rest : Executed) → KeepsVersions old rest → KeepsVersions old (failed_by verdict position rest)
-verdict_keeps old Success position rest kept = kept
-verdict_keeps old (Refused refusal) position rest kept = tt
-
-failed_keeps : (old : ClusterState) (marks : List Mark) (made : Executed) → KeepsVersions old made → KeepsVersions old (failed_or marks made)
-failed_keeps old [] made kept = kept
-failed_keeps old (mark ∷ marks) made kept = verdict_keeps old mark.verdict mark.position (failed_or marks made) (failed_keeps old marks made kept)
-
 -- what all tasks of a batch leave keeps its identifier and versions
 pub made_keeps : (state : ClusterState) (contexts : List TaskContext) (ran : Ran) (made : Executed) → ran ≡ folded (ran_none state) contexts → made ≡ made_of ran → KeepsVersions state made
 made_keeps state contexts ran made e f = subst (KeepsVersions state) (sym f) (subst (λ (r : Ran). HasVersionsOf state r.state) (sym e) (folded_keeps (ran_none state) contexts))
 
 pub atomic_keeps : (state : ClusterState) (contexts : List TaskContext) (r : Result Executed OutOfMemory) → IfOk r (λ made. made ≡ unless_refused (folded (ran_none state) contexts)) → IfOk r (KeepsVersions state)
 atomic_keeps state contexts (Ok made) e = subst (KeepsVersions state) (sym e)
-    (failed_keeps state (folded (ran_none state) contexts).marks (made_of (folded (ran_none state) contexts)) (folded_keeps (ran_none state) contexts))
+    (settled_or (KeepsVersions state) (λ _ _. tt) (folded (ran_none state) contexts).marks (made_of (folded (ran_none state) contexts)) (folded_keeps (ran_none state) contexts))
 atomic_keeps state contexts (Err _) e = tt

@@ -1,6 +1,6 @@
--- What the tasks of aliases do to a state (Elasticsearch's `MetadataIndexAliasesService`). That an alias may not have
--- the name of an index is Elasticsearch's; that it meets all rules of index names, and the order of the checks, are
--- this project's own.
+-- What the tasks of aliases do to a state. That an alias may not have the name of an index is Elasticsearch's
+-- (`org.elasticsearch.cluster.metadata.MetadataIndexAliasesService`); that it meets all rules of index names, the order
+-- of the checks, and what a task changes of an index and of its versions are this project's own.
 use Rattle.std.specs.Prelude.{ℕ, ◌+◌, Bool, false, not, List, Some, None, Option, is_some, if◌then◌else◌}
 use Rattle.plain_data.specs.Pairs.{lookup, with, without}
 use Rattle.meta_state.specs.declared.index_metadata.IndexMetadata.{IndexMetadata}

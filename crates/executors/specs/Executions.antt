@@ -1,4 +1,7 @@
--- What an executor makes of a batch: a fold over its tasks, each on the state that those before it left.
+-- What an executor makes of a batch: a fold over its tasks, each on the state that those before it left. That it runs a
+-- queue's tasks as one batch, completes each by its context and leaves the versions to the master is Elasticsearch's
+-- (`ClusterStateTaskExecutor`, `MasterService`); that its marks stand in the order of the tasks, and that the first
+-- refused task fails a batch that fails as a whole, are this project's own.
 use Rattle.std.specs.Prelude.{◌≡◌, ℕ, ◌-◌, ◌^◌, ◌<◌, List, [], ◌∷◌, ◌++◌, map, if◌then◌else◌}
 use Rattle.std.specs.List.{AllByRecursion}
 use Rattle.meta_state.specs.declared.index_metadata.IndexMetadata.{IndexMetadata}
@@ -59,6 +62,11 @@ settled kind ran = if is_atomic kind then unless_refused ran else made_of ran
 -- what a kind of executor makes of a batch on a state
 unfoldable pub executed : Kind → ClusterState → List TaskContext → Executed
 executed kind state contexts = settled kind (folded (ran_none state) contexts)
+
+-- one mark for each context, in order, where a state was made
+abbrev pub AreMarked : List TaskContext → Executed → Type 0
+AreMarked contexts (Made state marks) = map (λ m. m.position) marks ≡ map (λ c. c.position) contexts
+AreMarked contexts (Failed position refusal) = Unit {0}
 
 -- two states whose identifier, version and metadata version are the same
 pub record HasVersionsOf (old new : ClusterState) : Type 0 where

@@ -1,6 +1,9 @@
--- What the tasks of indices do to a state: to create, to delete, to set the replicas, to open and to close. That an
--- index name is checked first, and that the shards are final, is Elasticsearch's (`MetadataCreateIndexService`,
--- `MetadataUpdateSettingsService`); the order of the checks, and the replica maximum of 1,000, are this project's own.
+-- What the tasks of indices do to a state: to create, to delete, to set the replicas, to open and to close. Of
+-- Elasticsearch (`org.elasticsearch.cluster.metadata`) are the tasks and what refuses them: `MetadataCreateIndexService`
+-- checks the name of an index and that nothing has it, `MetadataDeleteIndexService` takes its aliases with it,
+-- `MetadataUpdateSettingsService` lets the replicas change and the shards not, `MetadataIndexStateService` opens and
+-- closes. The order of the checks, what each task changes of an index and of its versions, and the replica maximum of
+-- 1,000 are this project's own.
 use Rattle.std.specs.Prelude.{ℕ, ◌+◌, ◌==◌, Bool, true, not, ◌||◌, List, [], Some, None, Option, is_some, nat_lt, bytes_eq, codes, if◌then◌else◌}
 use Rattle.std.specs.Bool.{beq}
 use Rattle.plain_data.specs.Pairs.{lookup, with, without}

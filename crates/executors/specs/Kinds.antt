@@ -1,22 +1,28 @@
--- Which tasks an executor takes, and which executors run only on a master in office.
+-- The executors: which form of task each takes, which of them run only on a master in office, and which fail as a whole.
+-- This is the one table of executors and their tasks, which the script's validity and its reading cite. That some run
+-- only on a master in office is Elasticsearch's (`ClusterStateTaskExecutor.runOnlyOnMaster`); which ones is this project's own.
 use Rattle.std.specs.Prelude.{Bool, true, false}
 use Rattle.executors.specs.declared.kinds.Kind.{Kind}
 use Rattle.executors.specs.declared.kinds.Kind.TheVariants as kind
+use Rattle.executors.specs.declared.task_forms.TaskForm.{TaskForm}
+use Rattle.executors.specs.declared.task_forms.TaskForm.TheVariants as form
 use Rattle.executors.specs.declared.tasks.Task.{Task}
-use Rattle.executors.specs.declared.tasks.Task.TheVariants as task
+use Rattle.executors.specs.TaskForms.{is_of_form}
+
+-- the form of the tasks that an executor takes
+abbrev pub form_of : Kind → TaskForm
+form_of kind.CreateIndex = form.CreateIndex
+form_of kind.DeleteIndex = form.DeleteIndex
+form_of kind.IndexSettings = form.IndexSetting
+form_of kind.OpenClose = form.OpenClose
+form_of kind.Aliases = form.Alias
+form_of kind.AliasesAtomic = form.Alias
+form_of kind.ClusterSettings = form.ClusterSetting
+form_of kind.Nodes = form.Node
+form_of kind.Reelect = form.Reelect
 
 abbrev pub accepts : Kind → Task → Bool
-accepts kind.CreateIndex (task.CreateIndex index shards replicas) = true
-accepts kind.DeleteIndex (task.DeleteIndex index) = true
-accepts kind.IndexSettings (task.IndexSetting index key value) = true
-accepts kind.OpenClose (task.OpenClose index opened) = true
-accepts kind.Aliases (task.Alias index alias add) = true
-accepts kind.AliasesAtomic (task.Alias index alias add) = true
-accepts kind.ClusterSettings (task.ClusterSetting key value) = true
-accepts kind.Nodes (task.Join node) = true
-accepts kind.Nodes (task.Leave name) = true
-accepts kind.Reelect task.Reelect = true
-accepts _ _ = false
+accepts kind task = is_of_form (form_of kind) task
 
 abbrev pub needs_master : Kind → Bool
 needs_master kind.Reelect = false

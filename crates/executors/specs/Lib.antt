@@ -4,7 +4,9 @@ pub mod Contexts
 pub mod Executions
 pub mod IndexTasks
 pub mod Kinds
+pub mod Letters
 pub mod NodeTasks
+pub mod Refusals
 pub mod SettingTasks
+pub mod TaskForms
 pub mod TaskRuns
-pub mod Words

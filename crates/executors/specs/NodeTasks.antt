@@ -1,5 +1,6 @@
--- What the tasks of nodes do to a state (Elasticsearch's `NodeJoinExecutor` and `NodeLeftExecutor`), and the election
--- of the master anew. That a known node isn't joined and an unknown one doesn't leave is this project's own.
+-- What the tasks of nodes do to a state, after Elasticsearch's `NodeJoinExecutor` and `NodeLeftExecutor`, and the
+-- election of the master anew, which raises the term as Elasticsearch's coordination does. What refuses them, the order
+-- of the checks, and that a task of joining carries the node's flag are this project's own.
 use Rattle.std.specs.Prelude.{ℕ, ◌+◌, Bool, not, List, Some, None, Option, is_some, bytes_eq, if◌then◌else◌}
 use Rattle.plain_data.specs.Pairs.{lookup, with, without}
 use Rattle.meta_state.specs.declared.node_info.NodeInfo.{NodeInfo}

@@ -1,27 +1,20 @@
--- What a task of the cluster settings does to a state (Elasticsearch's `TransportClusterUpdateSettingsAction`). Which
--- keys and values there are is this project's own.
-use Rattle.std.specs.Prelude.{ℕ, Bool, false, not, ◌==◌, ◌&&◌, ◌||◌, List, [], ◌∷◌, Some, None, Option, length, nat_le, nat_lt, if◌then◌else◌}
+-- What a task of the cluster settings does to a state, after Elasticsearch's `TransportClusterUpdateSettingsAction`: a
+-- value is set, and one that is null is removed. Which keys and values there are is this project's own.
+use Rattle.std.specs.Prelude.{ℕ, Bool, false, not, ◌==◌, ◌&&◌, ◌||◌, List, Some, None, Option, length, nat_le, nat_lt, if◌then◌else◌}
 use Rattle.std.specs.List.{list_all}
 use Rattle.plain_data.specs.Pairs.{with, without}
 use Rattle.meta_state.specs.declared.cluster_state.ClusterState.{ClusterState}
 use Rattle.executors.specs.declared.refusals.TaskRefusal.{TaskRefusal}
 use Rattle.executors.specs.declared.refusals.TaskRefusal.TheVariants.{BadValue}
+use Rattle.executors.specs.Letters.{begins_well, is_letter_or_digit}
 
--- a letter from a to z or a digit
-abbrev pub is_key_start : ℕ → Bool
-is_key_start b = (nat_le 0x61 b && nat_le b 0x7A) || (nat_le 0x30 b && nat_le b 0x39)
-
--- one of these, or `.`, `_` or `-`
+-- a letter, a digit, `.`, `_` or `-`
 abbrev pub is_key_byte : ℕ → Bool
-is_key_byte b = is_key_start b || ((b == 0x2E) || ((b == 0x5F) || (b == 0x2D)))
-
-abbrev pub begins_as_key : List ℕ → Bool
-begins_as_key [] = false
-begins_as_key (b ∷ _) = is_key_start b
+is_key_byte b = is_letter_or_digit b || ((b == 0x2E) || ((b == 0x5F) || (b == 0x2D)))
 
 -- the keys of settings: 1 to 255 of these bytes, the first a letter or a digit
 abbrev pub is_key : List ℕ → Bool
-is_key key = begins_as_key key && (nat_le (length key) 255 && list_all is_key_byte key)
+is_key key = begins_well key && (nat_le (length key) 255 && list_all is_key_byte key)
 
 -- a value has 1,024 bytes at most; none removes the key
 abbrev pub is_too_long : Option (List ℕ) → Bool

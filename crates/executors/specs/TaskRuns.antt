@@ -1,4 +1,5 @@
--- What one task does to a state, by its kind.
+-- What one task does to a state, by its kind. That a refused task changes nothing is Elasticsearch's
+-- (`ClusterStateTaskExecutor.TaskContext.onFailure`); the tasks' own files say where their rules come from.
 use Rattle.std.specs.Prelude.{ℕ, Bool, true, false, List, Some, None, Option}
 use Rattle.meta_state.specs.declared.cluster_state.ClusterState.{ClusterState}
 use Rattle.executors.specs.declared.contexts.Verdict.{Verdict}

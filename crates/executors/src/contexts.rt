@@ -22,8 +22,9 @@ pub enum Verdict {
     Refused(TaskRefusal),
 }
 
-/// That the task at a place of its batch was completed. Only a context that is spent makes one.
-#[derive(Clone, Copy, Debug, PartialEq, Eq)]
+/// That the task at a place of its batch was completed. Only a context that is spent makes one, and none is made of
+/// another.
+#[derive(Debug, Drop, PartialEq, Eq)]
 pub struct Mark {
     position: u32,
     verdict: Verdict,

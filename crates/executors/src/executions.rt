@@ -5,7 +5,7 @@ ghost use Rattle.meta_state.specs.States.{IsRoomy};
 ghost use Rattle.executors.specs.declared.tasks.Task.{Task};
 ghost use Rattle.executors.specs.declared.contexts.TaskContext.{TaskContext};
 ghost use Rattle.executors.specs.declared.executions.Executed.{Executed};
-ghost use Rattle.executors.specs.Executions.{tasks_of, KeepsVersions};
+ghost use Rattle.executors.specs.Executions.{AreMarked, KeepsVersions, tasks_of};
 
 use crate::contexts::{Mark, TaskContext};
 use crate::refusals::TaskRefusal;
@@ -51,7 +51,7 @@ pub trait Executor {
         ensures { result ≡ masters self.now };
 
     /// Completes each context once and answers the state that they leave, whose identifier, version and metadata
-    /// version are those of `initial`. Want of memory leaves nothing.
+    /// version are those of `initial`, with one mark for each context, in order. Want of memory leaves nothing.
     fn execute(
         &self,
         alloc: Global,
@@ -61,5 +61,6 @@ pub trait Executor {
         requires roomy { IsRoomy initial.now }
         requires accepted { IsTrue (list_all (takes self.now) (tasks_of contexts.items)) }
         ensures made { IfOk result (λ made. made ≡ makes self.now initial.now contexts.items) }
+        ensures marks { IfOk result (AreMarked contexts.items) }
         ensures versions { IfOk result (KeepsVersions initial.now) };
 }

@@ -1,17 +1,18 @@
 ghost use Rattle.std.specs.Prelude.{◌≡◌, Bool};
 ghost use Rattle.executors.specs.Executions.{executed};
-ghost use Rattle.executors.specs.Kinds.{accepts, is_atomic, needs_master};
+ghost use Rattle.executors.specs.Kinds.{accepts, form_of, is_atomic, needs_master};
 
 use crate::contexts::TaskContext;
 use crate::executions::{Executed, Executor};
 use crate::folds::{run_all, run_atomic};
+use crate::task_forms::TaskForm;
 use crate::tasks::Task;
 use meta_state::ClusterState;
 use plain_data::OutOfMemory;
 use std::alloc::Global;
 
-/// The executors, each of one kind of task, but for two of aliases: `Aliases` runs each task for itself, and
-/// `AliasesAtomic` fails its whole batch where one is refused.
+/// The executors, each of tasks of one form, which two share: `Aliases` runs each task for itself, and `AliasesAtomic`
+/// fails its whole batch where one is refused.
 #[derive(Clone, Copy, Debug, PartialEq, Eq)]
 pub enum Kind {
     CreateIndex,
@@ -30,6 +31,23 @@ pub enum Kind {
 }
 
 impl Kind {
+    /// The form of the tasks that it takes.
+    pub fn form(&self) -> TaskForm
+        ensures { result ≡ form_of self.now }
+    {
+        match self {
+            Kind::CreateIndex => TaskForm::CreateIndex,
+            Kind::DeleteIndex => TaskForm::DeleteIndex,
+            Kind::IndexSettings => TaskForm::IndexSetting,
+            Kind::OpenClose => TaskForm::OpenClose,
+            Kind::Aliases => TaskForm::Alias,
+            Kind::AliasesAtomic => TaskForm::Alias,
+            Kind::ClusterSettings => TaskForm::ClusterSetting,
+            Kind::Nodes => TaskForm::Node,
+            Kind::Reelect => TaskForm::Reelect,
+        }
+    }
+
     /// Whether one refused task fails its whole batch.
     fn fails_as_a_whole(&self) -> bool
         ensures { result ≡ is_atomic self.now }
@@ -46,19 +64,7 @@ impl Executor for Kind {
     ghost makes = { executed };
 
     fn accepts(&self, task: &Task) -> bool {
-        match (self, task) {
-            (Kind::CreateIndex, Task::CreateIndex { .. }) => true,
-            (Kind::DeleteIndex, Task::DeleteIndex { .. }) => true,
-            (Kind::IndexSettings, Task::IndexSetting { .. }) => true,
-            (Kind::OpenClose, Task::OpenClose { .. }) => true,
-            (Kind::Aliases, Task::Alias { .. }) => true,
-            (Kind::AliasesAtomic, Task::Alias { .. }) => true,
-            (Kind::ClusterSettings, Task::ClusterSetting { .. }) => true,
-            (Kind::Nodes, Task::Join { .. }) => true,
-            (Kind::Nodes, Task::Leave { .. }) => true,
-            (Kind::Reelect, Task::Reelect) => true,
-            _ => false,
-        }
+        self.form().has(task)
     }
 
     fn needs_master(&self) -> bool {

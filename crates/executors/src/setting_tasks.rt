@@ -1,9 +1,10 @@
 ghost use Rattle.std.specs.Prelude.{◌≡◌, IfOk, OnOk};
 ghost use Rattle.std.specs.List.{list_all};
 ghost use Rattle.executors.specs.TaskRuns.{outcome};
-ghost use Rattle.executors.specs.SettingTasks.{begins_as_key, is_key, is_key_byte, is_key_start, is_too_long, set_in, setting_refusal};
+ghost use Rattle.executors.specs.SettingTasks.{is_key, is_key_byte, is_too_long, set_in, setting_refusal};
 
 use crate::contexts::Verdict;
+use crate::letters::{does_begin_well, is_alphanumeric};
 use crate::refusals::TaskRefusal;
 use meta_state::ClusterState;
 use plain_data::{OutOfMemory, Text};
@@ -39,7 +40,7 @@ pub fn is_setting_key(key: &Text) -> bool
     ensures { result ≡ is_key key.now }
 {
     let bytes = key.as_bytes();
-    begins_well(bytes) && bytes.len() <= 255 && are_allowed(bytes)
+    does_begin_well(bytes) && bytes.len() <= 255 && are_allowed(bytes)
 }
 
 fn are_allowed(bytes: &[u8]) -> bool
@@ -48,25 +49,10 @@ fn are_allowed(bytes: &[u8]) -> bool
     bytes.iter().all(|byte| is_allowed(*byte))
 }
 
-fn begins_well(bytes: &[u8]) -> bool
-    ensures { result ≡ begins_as_key bytes.now }
-{
-    match bytes.first() {
-        None => false,
-        Some(first) => is_start(*first),
-    }
-}
-
-fn is_start(byte: u8) -> bool
-    ensures { result ≡ is_key_start byte }
-{
-    (b'a' <= byte && byte <= b'z') || (b'0' <= byte && byte <= b'9')
-}
-
 fn is_allowed(byte: u8) -> bool
     ensures { result ≡ is_key_byte byte }
 {
-    is_start(byte) || byte == b'.' || byte == b'_' || byte == b'-'
+    is_alphanumeric(byte) || byte == b'.' || byte == b'_' || byte == b'-'
 }
 
 fn is_long(value: &Option<Text>) -> bool

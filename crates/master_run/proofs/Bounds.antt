@@ -12,7 +12,8 @@ use Rattle.meta_state.specs.declared.index_metadata.IndexMetadata.{IndexMetadata
 use Rattle.meta_state.specs.States.{AreRoomy}
 use Rattle.scripts.specs.declared.whole_script.Script.{Script}
 use Rattle.scripts.specs.declared.steps.Step.{Step}
-use Rattle.scripts.specs.Scripts.{IsScript, is_client}
+use Rattle.scripts.specs.Scripts.{IsScript}
+use Rattle.scripts.specs.Steps.{is_client}
 use Rattle.executors.proofs.Counts.{AreCounted}
 use Rattle.session_law.specs.declared.batches.Batch.{Batch}
 use Rattle.session_law.specs.declared.worlds.NodeWorld.{NodeWorld}
@@ -71,7 +72,7 @@ pub stood : (script : Script) (client number : ℕ) (step : Step) → step_at sc
 stood script client number step e = stood_in script client number step (slice_get script.clients client) refl e
 
 pub steps_few : (script : Script) (client : ℕ) (steps : List Step) → IsScript script → slice_get script.clients client ≡ Some steps → length steps ≤ 4096
-steps_few script client steps valid e = leb-true (length steps) 4096 (both_first _ _ (all_get (is_client script) script.clients client steps valid.clients e))
+steps_few script client steps valid e = leb-true (length steps) 4096 (both_first _ _ (all_get (is_client script.nodes script.queues) script.clients client steps valid.clients e))
 
 -- ---- entries as numbers below 32 times 4,096
 

@@ -20,7 +20,8 @@ use Rattle.executors.specs.declared.tasks.Task.{Task}
 use Rattle.executors.specs.Contexts.{numbered}
 use Rattle.executors.specs.Executions.{executed}
 use Rattle.executors.specs.Kinds.{needs_master}
-use Rattle.scripts.specs.Scripts.{IsScript, are_distinct}
+use Rattle.scripts.specs.Names.{are_distinct}
+use Rattle.scripts.specs.Scripts.{IsScript}
 use Rattle.session_law.specs.declared.batches.Batch.{Batch}
 use Rattle.session_law.specs.declared.batches.Entry.{Entry}
 use Rattle.session_law.specs.declared.worlds.Reach.{Reach}

@@ -6,20 +6,21 @@ use Rattle.scripts.specs.declared.whole_script.Script.{Script}
 use Rattle.scripts.specs.declared.steps.Goal.TheVariants as goal
 use Rattle.scripts.specs.declared.steps.Step.{Step}
 use Rattle.scripts.specs.declared.steps.Step.TheVariants.{Submit, Await, Watch, Next, Read, Sleep, Close}
-use Rattle.scripts.specs.Scripts.{IsScript, are_steps, is_client, is_goal, is_step}
+use Rattle.scripts.specs.Scripts.{IsScript}
+use Rattle.scripts.specs.Steps.{are_steps, is_client, is_goal, is_step}
 use Rattle.session_law.specs.Histories.{step_at}
 use Rattle.master_run.specs.Soundness.{is_submit_at}
 use Rattle.master_run.proofs.Bounds.{all_get, stood}
 use Rattle.master_run.proofs.Keeping.{both_first, both_second, no_some, some_same}
 
 -- a step may stand after those before it
-step_placed : (script : Script) (before steps : List Step) (number : ℕ) (step : Step) → are_steps script before steps ≡ true → slice_get steps number ≡ Some step
-    → is_step script (before ++ take number steps) step ≡ true
+step_placed : (script : Script) (before steps : List Step) (number : ℕ) (step : Step) → are_steps script.nodes script.queues before steps ≡ true → slice_get steps number ≡ Some step
+    → is_step script.nodes script.queues (before ++ take number steps) step ≡ true
 step_placed script before [] number step h e = absurd (no_some step e)
 step_placed script before (first ∷ steps) zero step h e =
-    (λ i. is_step script (append-nil before i) (sym (some_same first step e) i)) ∙ both_first _ _ h
+    (λ i. is_step script.nodes script.queues (append-nil before i) (sym (some_same first step e) i)) ∙ both_first _ _ h
 step_placed script before (first ∷ steps) (suc n) step h e =
-    ap (λ (all : List Step). is_step script all step) (sym (append_assoc before (first ∷ []) (take n steps))) ∙ step_placed script (before ++ first ∷ []) steps n step (both_second _ _ h) e
+    ap (λ (all : List Step). is_step script.nodes script.queues all step) (sym (append_assoc before (first ∷ []) (take n steps))) ∙ step_placed script (before ++ first ∷ []) steps n step (both_second _ _ h) e
 
 record IsAmongFirst (steps : List Step) (count number : ℕ) (step : Step) : Type 0 where
   less : number < count
@@ -49,6 +50,6 @@ pub awaits_submit : (script : Script) (client number earlier : ℕ) → IsScript
     → (earlier < number) × (is_submit_at (step_at script client earlier) ≡ true)
 awaits_submit script client number earlier valid e =
     let at = stood script client number (Await earlier goal.Task) e in
-    let steps = all_get (is_client script) script.clients client at.steps valid.clients at.of_client in
+    let steps = all_get (is_client script.nodes script.queues) script.clients client at.steps valid.clients at.of_client in
     named_by script client number earlier at.steps (slice_get (take number at.steps) earlier) at.of_client refl
     (step_placed script [] at.steps number (Await earlier goal.Task) (both_second _ _ steps) at.of_steps)

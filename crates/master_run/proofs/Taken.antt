@@ -13,7 +13,8 @@ use Rattle.executors.specs.declared.tasks.Task.{Task}
 use Rattle.scripts.specs.Built.{IsBuilt, is_built_step}
 use Rattle.executors.specs.Kinds.{accepts}
 use Rattle.scripts.proofs.Takes.{accepts_task_for}
-use Rattle.scripts.specs.Scripts.{IsScript, are_steps, is_client, is_queue_for, is_step}
+use Rattle.scripts.specs.Scripts.{IsScript}
+use Rattle.scripts.specs.Steps.{are_steps, is_client, is_queue_for, is_step}
 use Rattle.session_law.specs.declared.batches.Batch.{Batch}
 use Rattle.session_law.specs.declared.batches.Entry.{Entry}
 use Rattle.session_law.specs.Histories.{IsOwn, Queued, is_named, is_own_step, kind_named, queued_in, queued_of, step_at, submitted, task_at, tasks_at}
@@ -39,10 +40,10 @@ few_tasks script book queue entries at valid kept =
 
 -- what a script's form says of a step's queue
 abbrev pub is_queued : Script → Step → Bool
-is_queued script (Submit at task timeout ack) = is_queue_for script task (slice_get script.queues at)
+is_queued script (Submit at task timeout ack) = is_queue_for script.nodes task (slice_get script.queues at)
 is_queued script _ = true
 
-step_queued : (script : Script) (before : List Step) (step : Step) → is_step script before step ≡ true → is_queued script step ≡ true
+step_queued : (script : Script) (before : List Step) (step : Step) → is_step script.nodes script.queues before step ≡ true → is_queued script step ≡ true
 step_queued script before (Submit at task timeout ack) h = both_first _ _ h
 step_queued script before (Await _ _) h = refl
 step_queued script before (Watch _ _ _ _) h = refl
@@ -51,7 +52,7 @@ step_queued script before (Read _ _) h = refl
 step_queued script before (Sleep _) h = refl
 step_queued script before Close h = refl
 
-steps_queued : (script : Script) (before steps : List Step) (number : ℕ) (step : Step) → are_steps script before steps ≡ true → slice_get steps number ≡ Some step → is_queued script step ≡ true
+steps_queued : (script : Script) (before steps : List Step) (number : ℕ) (step : Step) → are_steps script.nodes script.queues before steps ≡ true → slice_get steps number ≡ Some step → is_queued script step ≡ true
 steps_queued script before [] number step h e = absurd (no_some step e)
 steps_queued script before (first ∷ steps) zero step h e = ap (is_queued script) (sym (some_same first step e)) ∙ step_queued script before first (both_first _ _ h)
 steps_queued script before (first ∷ steps) (suc n) step h e = steps_queued script (before ++ first ∷ []) steps n step (both_second _ _ h) e
@@ -59,10 +60,10 @@ steps_queued script before (first ∷ steps) (suc n) step h e = steps_queued scr
 pub queued : (script : Script) (client number : ℕ) (step : Step) → IsScript script → step_at script client number ≡ Some step → is_queued script step ≡ true
 queued script client number step valid e =
     let at = stood script client number step e in
-    let steps = all_get (is_client script) script.clients client at.steps valid.clients at.of_client in
+    let steps = all_get (is_client script.nodes script.queues) script.clients client at.steps valid.clients at.of_client in
     steps_queued script [] at.steps number step (both_second _ _ steps) at.of_steps
 
-pub some_queue : (script : Script) (task : Task) (found : Option QueueSpec) → is_queue_for script task found ≡ true → (queue : QueueSpec) × (found ≡ Some queue)
+pub some_queue : (script : Script) (task : Task) (found : Option QueueSpec) → is_queue_for script.nodes task found ≡ true → (queue : QueueSpec) × (found ≡ Some queue)
 some_queue script task None h = absurd (true≢false (sym h))
 some_queue script task (Some queue) h = (queue, refl)
 
@@ -84,11 +85,11 @@ named_same script number queue other at valid e f same =
     ∙ named_kind script.queues number queue valid.queues_distinct e
 
 taken_by : (script : Script) (number : ℕ) (queue : QueueSpec) (task : Task) (at : ℕ) → IsScript script → slice_get script.queues number ≡ Some queue
-    → (found : Option QueueSpec) → slice_get script.queues at ≡ found → is_named queue.name found ≡ true → is_queue_for script task found ≡ true
+    → (found : Option QueueSpec) → slice_get script.queues at ≡ found → is_named queue.name found ≡ true → is_queue_for script.nodes task found ≡ true
     → accepts queue.executor task ≡ true
 taken_by script number queue task at valid e None f named for = absurd (true≢false (sym named))
 taken_by script number queue task at valid e (Some other) f named for =
-    ap (λ k. accepts k task) (sym (named_same script number queue other at valid e f named)) ∙ accepts_task_for script other.executor task for
+    ap (λ k. accepts k task) (sym (named_same script number queue other at valid e f named)) ∙ accepts_task_for script.nodes other.executor task for
 
 step_taken : (script : Script) (number : ℕ) (queue : QueueSpec) → IsScript script → slice_get script.queues number ≡ Some queue
     → (step : Step) → is_own_step script queue.name (Some step) ≡ true → is_queued script step ≡ true

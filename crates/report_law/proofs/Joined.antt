@@ -5,7 +5,7 @@ use Rattle.std.proofs.Common.{sym, ap, ◌∙◌}
 use Rattle.std.specs.List.{AllByRecursion, list_all}
 use Rattle.std.proofs.lemmas.Bool.{true≢false, and_parts}
 use Rattle.std.proofs.lemmas.List.{append_assoc}
-use Rattle.scripts.specs.Scripts.{is_name}
+use Rattle.scripts.specs.Names.{is_name}
 use Rattle.executors.specs.SettingTasks.{is_key}
 use Rattle.report_law.specs.Bounds.{IsWord}
 use Rattle.report_law.specs.GoodForm.{is_index_name}

@@ -9,7 +9,7 @@ use Rattle.std.specs.declared.cmp.Ordering.{Ordering}
 use Rattle.std.specs.declared.cmp.Ordering.TheVariants.{Less, Equal, Greater}
 use Rattle.std.specs.Ordering.{eq_by_cmp, is_eq, nat_cmp, ordering_then}
 use Rattle.std.specs.BTreeSet.{BTreeSet, contains, Updates}
-use Rattle.scripts.specs.Scripts.{are_distinct}
+use Rattle.scripts.specs.Names.{are_distinct}
 use Rattle.session_law.specs.declared.batches.Entry.{Entry}
 use Rattle.session_law.specs.Histories.{is_same_task}
 use Rattle.report_law.specs.Apart.{are_apart_by}

@@ -3,7 +3,7 @@ use Rattle.std.specs.Prelude.{◌≡◌, ◌==◌, ℕ, Bool, true, false, List,
 use Rattle.std.specs.List.{AllByRecursion, list_all}
 use Rattle.std.proofs.lemmas.Bool.{and_parts}
 use Rattle.std.proofs.lemmas.List.{append_cancel_left}
-use Rattle.scripts.specs.Scripts.{is_name}
+use Rattle.scripts.specs.Names.{is_name}
 use Rattle.executors.specs.SettingTasks.{is_key}
 use Rattle.session_law.specs.declared.node_records.Apply.{Apply}
 use Rattle.session_law.specs.declared.node_records.ApplyEnd.{ApplyEnd}

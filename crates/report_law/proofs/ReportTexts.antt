@@ -4,7 +4,7 @@ use Rattle.std.specs.Prelude.{◌≡◌, ◌==◌, ℕ, false, List, ◌++◌, r
 use Rattle.std.proofs.Common.{sym, subst}
 use Rattle.std.specs.List.{AllByRecursion}
 use Rattle.std.proofs.lemmas.List.{append_assoc}
-use Rattle.scripts.specs.Scripts.{is_name}
+use Rattle.scripts.specs.Names.{is_name}
 use Rattle.meta_state.specs.declared.cluster_state.ClusterState.{ClusterState}
 use Rattle.session_law.specs.declared.replies.AckReply.{AckReply}
 use Rattle.session_law.specs.declared.replies.Reply.{Reply}

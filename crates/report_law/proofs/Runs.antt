@@ -8,8 +8,9 @@ use Rattle.std.specs.List.{list_all, list_any}
 use Rattle.std.proofs.lemmas.Bool.{true≢false, and_parts, or_parts, eqb-true, lt-ltb}
 use Rattle.std.specs.Cmp.Derive.{both_true}
 use Rattle.std.proofs.lemmas.Grind.{common_steps}
-use Rattle.scripts.specs.Scripts.{is_name, is_name_byte, is_name_start}
-use Rattle.executors.specs.SettingTasks.{is_key, is_key_byte, is_key_start}
+use Rattle.scripts.specs.Names.{is_name, is_name_byte}
+use Rattle.executors.specs.Letters.{is_letter_or_digit}
+use Rattle.executors.specs.SettingTasks.{is_key, is_key_byte}
 use Rattle.meta_state.specs.Names.{name_fault, is_forbidden, is_outside, is_upper, begins_badly}
 use Rattle.report_law.specs.GoodForm.{is_index_name}
 use Rattle.std.proofs.lemmas.Fmt.{decimal_injective, decimal_nonempty, decimal_is_IsNumeral}
@@ -190,11 +191,11 @@ decimal_no_dash n word = by (decimal n) (decimal_nonempty n word) (decimal_bytes
 
 pub name_no_dash : (name : List ℕ) → IsTrue (is_name name) → IsTrue (is_no_dash name)
 name_no_dash [] named = named
-name_no_dash (b ∷ name) named = starts_no_dash is_name_start b refl (and_parts _ _ named).0
+name_no_dash (b ∷ name) named = starts_no_dash is_letter_or_digit b refl (and_parts _ _ named).0
 
 pub key_no_dash : (key : List ℕ) → IsTrue (is_key key) → IsTrue (is_no_dash key)
 key_no_dash [] keyed = keyed
-key_no_dash (b ∷ key) keyed = starts_no_dash is_key_start b refl (and_parts _ _ keyed).0
+key_no_dash (b ∷ key) keyed = starts_no_dash is_letter_or_digit b refl (and_parts _ _ keyed).0
 
 pub index_name_no_dash : (name : List ℕ) → IsTrue (is_index_name name) → IsTrue (is_no_dash name)
 index_name_no_dash [] named = absurd cc

@@ -8,7 +8,7 @@ use Rattle.session_law.specs.declared.task_ends.TaskEnd.{TaskEnd}
 use Rattle.session_law.specs.declared.task_ends.TaskEnd.TheVariants as end
 use Rattle.executors.specs.declared.refusals.TaskRefusal.{TaskRefusal}
 use Rattle.executors.specs.declared.refusals.TaskRefusal.TheVariants as refusal
-use Rattle.executors.specs.Words.{refusal_word}
+use Rattle.executors.specs.Refusals.{refusal_word}
 use Rattle.report_law.specs.Bounds.{IsBoundedEnd, IsBoundedReply, IsWord}
 use Rattle.session_law.specs.Lines.{end_text, failure_text, line_end, reply_line}
 use Rattle.report_law.proofs.Runs.{decimal_line, decimal_tells, inner_line, is_decimal, is_inner, is_lined, run_tells}

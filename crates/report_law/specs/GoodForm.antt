@@ -12,7 +12,7 @@ use Rattle.meta_state.specs.declared.looks.Found.TheVariants as found
 use Rattle.meta_state.specs.declared.node_info.NodeInfo.{NodeInfo}
 use Rattle.meta_state.specs.declared.cluster_state.ClusterState.{ClusterState}
 use Rattle.meta_state.specs.Names.{name_fault}
-use Rattle.scripts.specs.Scripts.{are_distinct, is_name}
+use Rattle.scripts.specs.Names.{are_distinct, is_name}
 use Rattle.executors.specs.SettingTasks.{is_key}
 use Rattle.session_law.specs.declared.batches.Entry.{Entry}
 use Rattle.session_law.specs.declared.node_records.Apply.{Apply}

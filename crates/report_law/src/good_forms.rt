@@ -1,7 +1,7 @@
 ghost use Rattle.std.specs.Prelude.{◌≡◌, ◌↔◌, ◌&&◌, IfOk, IsTrue, map, nat_lt, true};
 ghost use Rattle.std.specs.List.{list_all};
 ghost use Rattle.std.specs.Map.{keys_of};
-ghost use Rattle.scripts.specs.Scripts.{are_distinct, is_name};
+ghost use Rattle.scripts.specs.Names.{are_distinct, is_name};
 ghost use Rattle.executors.specs.SettingTasks.{is_key};
 ghost use Rattle.report_law.specs.GoodForm.{IsGoodForm, IsNamedState, are_apart, are_listed, are_versions_rising, entry_key, is_apply_before, is_good_alias, is_good_apply, is_good_change, is_good_found, is_good_node, is_good_view, is_index_name, is_name_before, is_named_index, is_named_node};
 ghost use Rattle.session_law.specs.Lawful.{AreInOrder, is_ack_before, is_before, is_read_before, is_reply_before, is_rising, is_watch_before};

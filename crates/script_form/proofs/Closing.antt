@@ -1,31 +1,26 @@
 -- At most one step of a script closes, and steps stay valid as one more is added.
-use Rattle.std.proofs.Common.{◌≡◌, ℕ, ◌+◌, ◌≤◌, true, false, List, [], ◌∷◌, ◌++◌, refl, arith}
+use Rattle.std.proofs.Common.{◌≡◌, ℕ, ◌+◌, ◌≤◌, true, false, List, [], ◌∷◌, ◌++◌, refl, arith, append_assoc}
 use Rattle.std.specs.Prelude.{Bool, not, ◌&&◌, ◌||◌, count_by, flat_map}
 use Rattle.std.specs.List.{list_any}
+use Rattle.std.specs.Cmp.Derive.{both_true}
 use Rattle.std.proofs.lemmas.Bool.{and_parts}
 use Rattle.std.proofs.lemmas.Grind.{common_steps}
-use Rattle.scripts.specs.declared.whole_script.Script.{Script}
+use Rattle.std.proofs.lemmas.List.{append-nil}
+use Rattle.scripts.specs.declared.whole_script.ScriptNode.{ScriptNode}
+use Rattle.scripts.specs.declared.queues.QueueSpec.{QueueSpec}
 use Rattle.scripts.specs.declared.steps.Step.{Step}
-use Rattle.scripts.specs.Scripts.{are_steps, is_close, is_step}
+use Rattle.scripts.specs.Scripts.{is_close}
+use Rattle.scripts.specs.Steps.{are_steps, is_step}
 use Rattle.script_form.specs.Clients.{IsClosedOnce, closes, do_close, one_if_so}
-use Rattle.script_form.proofs.Casts.{and_both}
 
-append_nil : (before : List Step) → before ++ [] ≡ before
-append_nil [] = refl
-append_nil (first ∷ before) = grind (arith, common_steps, append_nil before)
-
-append_more : (before : List Step) (first : Step) (steps : List Step) → (before ++ first ∷ []) ++ steps ≡ before ++ first ∷ steps
-append_more [] first steps = refl
-append_more (b ∷ before) first steps = grind (arith, common_steps, append_more before first steps)
-
-are_steps_after : (script : Script) (before steps : List Step) (next : Step) → are_steps script before steps ≡ true → is_step script (before ++ steps) next ≡ true → are_steps script before (steps ++ next ∷ []) ≡ true
-are_steps_after script before [] next valid one = and_both (rw (append_nil before) at one) refl
-are_steps_after script before (first ∷ steps) next valid one =
+are_steps_after : (nodes : List ScriptNode) (queues : List QueueSpec) (before steps : List Step) (next : Step) → are_steps nodes queues before steps ≡ true → is_step nodes queues (before ++ steps) next ≡ true → are_steps nodes queues before (steps ++ next ∷ []) ≡ true
+are_steps_after nodes queues before [] next valid one = both_true (rw (append-nil before) at one) refl
+are_steps_after nodes queues before (first ∷ steps) next valid one =
     let parts = and_parts _ _ valid in
-    and_both parts.0 (are_steps_after script (before ++ first ∷ []) steps next parts.1 (rw (append_more before first steps) one))
+    both_true parts.0 (are_steps_after nodes queues (before ++ first ∷ []) steps next parts.1 (rw (append_assoc before (first ∷ []) steps) one))
 
-pub are_steps_push : (script : Script) (steps : List Step) (next : Step) → are_steps script [] steps ≡ true → is_step script steps next ≡ true → are_steps script [] (steps ++ next ∷ []) ≡ true
-are_steps_push script steps next valid one = are_steps_after script [] steps next valid one
+pub are_steps_push : (nodes : List ScriptNode) (queues : List QueueSpec) (steps : List Step) (next : Step) → are_steps nodes queues [] steps ≡ true → is_step nodes queues steps next ≡ true → are_steps nodes queues [] (steps ++ next ∷ []) ≡ true
+are_steps_push nodes queues steps next valid one = are_steps_after nodes queues [] steps next valid one
 
 -- ---- steps that close
 

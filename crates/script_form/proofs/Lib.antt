@@ -1,4 +1,3 @@
-mod Casts
 mod Closing
 mod Depths
 mod Names

@@ -7,8 +7,9 @@ use Rattle.std.specs.Cmp.Lexicographic.{nat_list_eq_equiv}
 use Rattle.std.proofs.lemmas.Grind.{common_steps}
 use Rattle.std.proofs.lemmas.List.Folds.{list_all-append}
 use Rattle.scripts.specs.declared.whole_script.ScriptNode.{ScriptNode}
-use Rattle.scripts.specs.Scripts.{are_asked, are_distinct, has_master, is_node, is_node_so}
-use Rattle.script_form.specs.Casts.{cast}
+use Rattle.scripts.specs.Names.{are_distinct}
+use Rattle.scripts.specs.Scripts.{has_master}
+use Rattle.scripts.specs.Steps.{are_asked, is_node_among, is_node_so}
 use Rattle.script_form.specs.Naming.{AreNamed, IsNewTo}
 use Rattle.script_form.specs.Nodes.{find_node, is_fit_first, is_led}
 use Rattle.script_form.specs.Steps.{IsNewAsked}
@@ -54,13 +55,13 @@ beq_refl : (b : Bool) → beq b b ≡ true
 beq_refl true = refl
 beq_refl false = refl
 
-pub is_node_found : (nodes : List ScriptNode) (name : List ℕ) (node : ScriptNode) → find_node nodes name ≡ Some node → is_node (cast nodes [] []) node.name ≡ true
+pub is_node_found : (nodes : List ScriptNode) (name : List ℕ) (node : ScriptNode) → find_node nodes name ≡ Some node → is_node_among nodes node.name ≡ true
 is_node_found [] name node found = absurd cc
 is_node_found (first ∷ nodes) name node found = grind (arith, common_steps, is_node_found nodes name node, bytes_eq_refl)
 
-pub is_node_so_found : (nodes : List ScriptNode) (name : List ℕ) (node : ScriptNode) → find_node nodes name ≡ Some node → is_node_so (cast nodes [] []) node.name node.eligible ≡ true
+pub is_node_so_found : (nodes : List ScriptNode) (name : List ℕ) (node : ScriptNode) → find_node nodes name ≡ Some node → is_node_so nodes node.name node.eligible ≡ true
 is_node_so_found [] name node found = absurd cc
 is_node_so_found (first ∷ nodes) name node found = grind (arith, common_steps, is_node_so_found nodes name node, bytes_eq_refl, beq_refl)
 
-pub are_asked_push : (nodes : List ScriptNode) (before : List (List ℕ)) (name : List ℕ) → are_asked (cast nodes [] []) before ≡ true → IsNewAsked nodes before name → are_asked (cast nodes [] []) (before ++ name ∷ []) ≡ true
+pub are_asked_push : (nodes : List ScriptNode) (before : List (List ℕ)) (name : List ℕ) → are_asked nodes before ≡ true → IsNewAsked nodes before name → are_asked nodes (before ++ name ∷ []) ≡ true
 are_asked_push nodes before name asked new = grind (arith, common_steps, list_all-append, are_distinct_push before name, new.known, new.apart)

@@ -1,13 +1,11 @@
 -- What is read part by part makes a valid script.
-use Rattle.std.proofs.Common.{◌≡◌, ℕ, ◌≤◌, ◌*◌, [], true, length, refl, arith}
+use Rattle.std.proofs.Common.{◌≡◌, ℕ, ◌≤◌, ◌*◌, true, length, arith}
 use Rattle.std.specs.Prelude.{nat_le}
 use Rattle.std.proofs.lemmas.Bool.{and_parts}
 use Rattle.std.proofs.lemmas.Grind.{common_steps}
 use Rattle.scripts.specs.declared.whole_script.Script.{Script}
 use Rattle.scripts.specs.Scripts.{IsScript, alias_reads, submits}
-use Rattle.script_form.specs.Casts.{cast}
 use Rattle.script_form.specs.Reading.{AreParts, is_workable}
-use Rattle.script_form.proofs.Casts.{clients_for, faults_for, turns_for}
 
 nat_le_sound : (m n : ℕ) → nat_le m n ≡ true → m ≤ n
 nat_le_sound m n holds = grind (arith, common_steps)
@@ -27,13 +25,13 @@ script_is_valid script parts work =
       queues_named = parts.queues.named;
       queues_distinct = parts.queues.distinct;
       clients_limit = parts.clients_limit;
-      clients = clients_for (cast script.nodes script.queues []) script refl refl script.clients parts.clients;
+      clients = parts.clients;
       one_close = parts.one_close;
       faults_limit = parts.faults_limit;
-      faults = faults_for (cast script.nodes [] []) script refl script.faults parts.faults;
+      faults = parts.faults;
       faults_distinct = parts.faults_distinct;
       schedule_limit = parts.schedule_limit;
-      schedule = turns_for (cast script.nodes [] script.clients) script refl refl script.schedule parts.schedule;
+      schedule = parts.schedule;
       work_of_publications = nat_le_sound _ _ publications;
       work_of_reads = nat_le_sound _ _ reads;
     }

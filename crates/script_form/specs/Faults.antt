@@ -8,7 +8,6 @@ use Rattle.scripts.specs.declared.faults.FaultKind.{FaultKind}
 use Rattle.scripts.specs.declared.faults.FaultKind.TheVariants as fault_kind
 use Rattle.scripts.specs.declared.whole_script.ScriptNode.{ScriptNode}
 use Rattle.scripts.specs.Scripts.{is_fault, is_master}
-use Rattle.script_form.specs.Casts.{cast}
 use Rattle.script_form.specs.declared.limits.LimitName.TheVariants.{Faults}
 use Rattle.script_form.specs.declared.misfits.Misfit.{Misfit}
 use Rattle.script_form.specs.declared.rules.Rule.TheVariants.{Master, Twice}
@@ -54,5 +53,5 @@ faults_of nodes d = short_list 1024 Faults d >>= each (next_fault nodes) []
 
 -- a fault of a node other than the master, at a place where no fault before it is
 pub record IsNewFault (nodes : List ScriptNode) (before : List Fault) (fault : Fault) : Type 0 where
-  pub valid : IsTrue (is_fault (cast nodes [] []) fault)
+  pub valid : IsTrue (is_fault nodes fault)
   pub apart : list_any (is_same_place fault) before ≡ false

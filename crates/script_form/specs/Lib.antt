@@ -1,4 +1,3 @@
-pub mod Casts
 pub mod Clients
 pub mod Faults
 pub mod Misfits

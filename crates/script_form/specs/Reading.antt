@@ -4,8 +4,9 @@ use Rattle.std.specs.List.{list_all}
 use Rattle.serde_json.specs.Data.{Data}
 use Rattle.scripts.specs.declared.whole_script.Script.{Script}
 use Rattle.scripts.specs.Built.{is_built}
-use Rattle.scripts.specs.Scripts.{alias_reads, are_faults_distinct, is_client, is_fault, is_name, is_turn, submits}
-use Rattle.script_form.specs.Casts.{cast}
+use Rattle.scripts.specs.Names.{is_name}
+use Rattle.scripts.specs.Scripts.{alias_reads, are_faults_distinct, is_fault, is_turn, submits}
+use Rattle.scripts.specs.Steps.{is_client}
 use Rattle.script_form.specs.declared.limits.LimitName.TheVariants.{Work}
 use Rattle.script_form.specs.declared.misfits.Misfit.{Misfit}
 use Rattle.script_form.specs.declared.misfits.Misfit.TheVariants as misfit
@@ -100,10 +101,10 @@ pub record AreParts (script : Script) : Type 0 where
   pub queues : AreNamed queue_name script.queues
   pub queues_limit : length script.queues ≤ 64
   pub clients_limit : length script.clients ≤ 32
-  pub clients : IsTrue (list_all (is_client (cast script.nodes script.queues [])) script.clients)
+  pub clients : IsTrue (list_all (is_client script.nodes script.queues) script.clients)
   pub one_close : closes script.clients ≤ 1
   pub faults_limit : length script.faults ≤ 1024
-  pub faults : IsTrue (list_all (is_fault (cast script.nodes [] [])) script.faults)
+  pub faults : IsTrue (list_all (is_fault script.nodes) script.faults)
   pub faults_distinct : IsTrue (are_faults_distinct script.faults)
   pub schedule_limit : length script.schedule ≤ 65536
-  pub schedule : IsTrue (list_all (is_turn (cast script.nodes [] script.clients)) script.schedule)
+  pub schedule : IsTrue (list_all (is_turn script.nodes (length script.clients)) script.schedule)

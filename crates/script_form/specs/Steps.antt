@@ -13,8 +13,8 @@ use Rattle.scripts.specs.declared.steps.Goal.{Goal}
 use Rattle.scripts.specs.declared.steps.Goal.TheVariants as goal
 use Rattle.scripts.specs.declared.steps.Step.{Step}
 use Rattle.scripts.specs.declared.steps.Step.TheVariants as step
-use Rattle.scripts.specs.Scripts.{is_goal, is_node}
-use Rattle.script_form.specs.Casts.{cast}
+use Rattle.executors.specs.Kinds.{form_of}
+use Rattle.scripts.specs.Steps.{is_goal, is_node_among}
 use Rattle.script_form.specs.declared.misfits.Misfit.{Misfit}
 use Rattle.script_form.specs.declared.rules.Rule.TheVariants.{WrongType, Missing, Value, Reference, Twice}
 use Rattle.script_form.specs.Misfits.{◌>>=◌, bad, if_so, at_member, within}
@@ -64,7 +64,7 @@ unfoldable pub submit_of : List ScriptNode → List QueueSpec → Data → Resul
 submit_of nodes queues d =
     check_members (codes "do" ∷ codes "queue" ∷ codes "task" ∷ codes "timeout" ∷ codes "ack" ∷ []) d >>= λ _.
     required (codes "queue") (queue_named queues) d >>= λ queue.
-    required (codes "task") (task_of nodes queue.1) d >>= λ task.
+    required (codes "task") (task_of nodes (form_of queue.1)) d >>= λ task.
     optional (codes "timeout") 0 time_of d >>= λ timeout.
     optional (codes "ack") None (some_ack_of nodes) d >>= λ ack.
     Ok (step.Submit queue.0 task (none_if_zero timeout) ack)
@@ -169,5 +169,5 @@ step_of nodes queues before d =
 
 -- a node of the script, which no one before it is
 pub record IsNewAsked (nodes : List ScriptNode) (before : List (List ℕ)) (name : List ℕ) : Type 0 where
-  pub known : IsTrue (is_node (cast nodes [] []) name)
+  pub known : IsTrue (is_node_among nodes name)
   pub apart : list_any (bytes_eq name) before ≡ false

@@ -1,9 +1,10 @@
--- The task of a submit, whose members are told by the queue's executor. The form is this project's own.
+-- The task of a submit, whose members are told by the form of task that the queue's executor takes. All of it is this
+-- project's own.
 use Rattle.std.specs.Prelude.{ℕ, Bool, true, false, List, [], ◌∷◌, Some, None, Option, Result, Ok, codes, bytes_eq, if◌then◌else◌}
 use Rattle.serde_json.specs.Data.{Data}
 use Rattle.serde_json.specs.Find.{as_null, as_str}
-use Rattle.executors.specs.declared.kinds.Kind.{Kind}
-use Rattle.executors.specs.declared.kinds.Kind.TheVariants as kind
+use Rattle.executors.specs.declared.task_forms.TaskForm.{TaskForm}
+use Rattle.executors.specs.declared.task_forms.TaskForm.TheVariants as form
 use Rattle.scripts.specs.declared.whole_script.ScriptNode.{ScriptNode}
 use Rattle.executors.specs.declared.tasks.Task.{Task}
 use Rattle.executors.specs.declared.tasks.Task.TheVariants as task
@@ -89,13 +90,13 @@ node_task_of nodes d =
 unfoldable pub reelection_of : Data → Result Task Misfit
 reelection_of d = check_members [] d >>= λ _. Ok task.Reelect
 
-abbrev pub task_of : List ScriptNode → Kind → Data → Result Task Misfit
-task_of nodes kind.CreateIndex d = creation_of d
-task_of nodes kind.DeleteIndex d = deletion_of d
-task_of nodes kind.IndexSettings d = index_setting_of d
-task_of nodes kind.OpenClose d = opening_of d
-task_of nodes kind.Aliases d = alias_task_of d
-task_of nodes kind.AliasesAtomic d = alias_task_of d
-task_of nodes kind.ClusterSettings d = cluster_setting_of d
-task_of nodes kind.Nodes d = node_task_of nodes d
-task_of nodes kind.Reelect d = reelection_of d
+-- the task of a form
+abbrev pub task_of : List ScriptNode → TaskForm → Data → Result Task Misfit
+task_of nodes form.CreateIndex d = creation_of d
+task_of nodes form.DeleteIndex d = deletion_of d
+task_of nodes form.IndexSetting d = index_setting_of d
+task_of nodes form.OpenClose d = opening_of d
+task_of nodes form.Alias d = alias_task_of d
+task_of nodes form.ClusterSetting d = cluster_setting_of d
+task_of nodes form.Node d = node_task_of nodes d
+task_of nodes form.Reelect d = reelection_of d

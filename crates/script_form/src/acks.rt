@@ -1,8 +1,7 @@
 ghost use Rattle.std.specs.Prelude.{◌≡◌, [], IfOk, IsTrue, None, bytes_eq, codes, length, map};
 ghost use Rattle.std.specs.List.{list_any};
 ghost use Rattle.serde_json.specs.View.{view};
-ghost use Rattle.scripts.specs.Scripts.{are_asked, is_ack, is_if_some, is_time};
-ghost use Rattle.script_form.specs.Casts.{cast};
+ghost use Rattle.scripts.specs.Steps.{are_asked, is_ack, is_if_some, is_time};
 ghost use Rattle.script_form.specs.Misfits.{Reads, at_place, within};
 ghost use Rattle.script_form.specs.Parts.{each, optional};
 ghost use Rattle.script_form.specs.Steps.{IsNewAsked, ack_of, asked_of, next_asked, some_ack_of, some_time_of};
@@ -23,7 +22,7 @@ pub(crate) fn ack_or_none(
     value: &Value,
 ) -> Result<Option<Ack>, Misfit>
     ensures exact { Reads (λ a. a) result (optional (codes "ack") None (some_ack_of nodes.now) (view value.now)) }
-    ensures valid { IfOk result (λ ack. IsTrue (is_if_some (is_ack (cast nodes.now [] [])) ack)) }
+    ensures valid { IfOk result (λ ack. IsTrue (is_if_some (is_ack nodes.now) ack)) }
 {
     match value.get("ack") {
         None => Ok(None),
@@ -34,7 +33,7 @@ pub(crate) fn ack_or_none(
 #[tactic(auto, unfolding(crate::specs::Steps::ack_of))]
 fn ack_in(alloc: Global, nodes: &[ScriptNode], value: &Value) -> Result<Ack, Misfit>
     ensures exact { Reads (λ a. a) result (ack_of nodes.now (view value.now)) }
-    ensures valid { IfOk result (λ ack. IsTrue (is_ack (cast nodes.now [] []) ack)) }
+    ensures valid { IfOk result (λ ack. IsTrue (is_ack nodes.now ack)) }
 {
     check_members(alloc, value, &["nodes", "timeout"])?;
     let asked = member(alloc, value, "nodes")?;
@@ -64,7 +63,7 @@ fn asked_in(
     value: &Value,
 ) -> Result<Option<Items<Text>>, Misfit>
     ensures exact { Reads (λ a. a) result (asked_of nodes.now (view value.now)) }
-    ensures valid { IfOk result (λ asked. IsTrue (is_if_some (are_asked (cast nodes.now [] [])) asked)) }
+    ensures valid { IfOk result (λ asked. IsTrue (is_if_some (are_asked nodes.now) asked)) }
 {
     match value.as_str() {
         Some("all") => Ok(None),
@@ -76,7 +75,7 @@ fn asked_in(
 /// The asked nodes, one after the other.
 fn each_asked(alloc: Global, nodes: &[ScriptNode], values: &[Value]) -> Result<Items<Text>, Misfit>
     ensures exact { Reads (λ a. a) result (each (next_asked nodes.now) [] (map view values.now)) }
-    ensures valid { IfOk result (λ asked. IsTrue (are_asked (cast nodes.now [] []) asked)) }
+    ensures valid { IfOk result (λ asked. IsTrue (are_asked nodes.now asked)) }
 {
     let mut asked = Items::new(alloc);
     for value in values {

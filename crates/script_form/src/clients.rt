@@ -1,8 +1,8 @@
 ghost use Rattle.std.specs.Prelude.{◌≡◌, ◌≤◌, ◌<◌, ◌&&◌, [], IfOk, IsTrue, length, map, not};
 ghost use Rattle.std.specs.List.{list_all, list_any};
 ghost use Rattle.serde_json.specs.View.{view};
-ghost use Rattle.scripts.specs.Scripts.{are_steps, is_client, is_close, is_step};
-ghost use Rattle.script_form.specs.Casts.{cast};
+ghost use Rattle.scripts.specs.Scripts.{is_close};
+ghost use Rattle.scripts.specs.Steps.{are_steps, is_client, is_step};
 ghost use Rattle.script_form.specs.Clients.{IsClosedOnce, clients_of, closes, next_client, next_step, step_unless_closed, steps_of};
 ghost use Rattle.script_form.specs.Misfits.{Reads, at_place, within};
 ghost use Rattle.script_form.specs.Parts.{each};
@@ -27,7 +27,7 @@ pub(crate) fn clients_in(
     requires { length queues.now ≤ 64 }
     ensures exact { Reads (λ c. c) result (clients_of nodes.now queues.now (view value.now)) }
     ensures limit { IfOk result (λ clients. length clients ≤ 32) }
-    ensures valid { IfOk result (λ clients. IsTrue (list_all (is_client (cast nodes.now queues.now [])) clients)) }
+    ensures valid { IfOk result (λ clients. IsTrue (list_all (is_client nodes.now queues.now) clients)) }
     ensures one_close { IfOk result (λ clients. closes clients ≤ 1) }
 {
     let values = values_up_to(alloc, value, 32, LimitName::Clients)?;
@@ -44,7 +44,7 @@ fn each_client(
     requires { length queues.now ≤ 64 }
     ensures exact { Reads (λ c. c) result (each (next_client nodes.now queues.now) [] (map view values.now)) }
     ensures count { IfOk result (λ clients. length clients ≡ length values.now) }
-    ensures valid { IfOk result (λ clients. IsTrue (list_all (is_client (cast nodes.now queues.now [])) clients)) }
+    ensures valid { IfOk result (λ clients. IsTrue (list_all (is_client nodes.now queues.now) clients)) }
     ensures one_close { IfOk result (λ clients. closes clients ≤ 1) }
 {
     let mut clients = Items::new(alloc);
@@ -68,7 +68,7 @@ fn next_client_in(
 ) -> Result<Items<Step>, Misfit>
     requires { length queues.now ≤ 64 }
     ensures exact { Reads (λ s. s) result (within (at_place place) (steps_of nodes.now queues.now closed (view value.now))) }
-    ensures valid { IfOk result (λ steps. IsTrue (is_client (cast nodes.now queues.now []) steps)) }
+    ensures valid { IfOk result (λ steps. IsTrue (is_client nodes.now queues.now steps)) }
     ensures close { IfOk result (IsClosedOnce closed) }
 {
     in_place(alloc, place, steps_in(alloc, nodes, queues, closed, value))
@@ -84,7 +84,7 @@ fn steps_in(
 ) -> Result<Items<Step>, Misfit>
     requires { length queues.now ≤ 64 }
     ensures exact { Reads (λ s. s) result (steps_of nodes.now queues.now closed (view value.now)) }
-    ensures valid { IfOk result (λ steps. IsTrue (is_client (cast nodes.now queues.now []) steps)) }
+    ensures valid { IfOk result (λ steps. IsTrue (is_client nodes.now queues.now steps)) }
     ensures close { IfOk result (IsClosedOnce closed) }
 {
     let values = values_up_to(alloc, value, 4096, LimitName::Steps)?;
@@ -103,7 +103,7 @@ fn each_step(
     requires few { length values.now ≤ 4096 }
     ensures exact { Reads (λ s. s) result (each (next_step nodes.now queues.now closed) [] (map view values.now)) }
     ensures count { IfOk result (λ steps. length steps ≡ length values.now) }
-    ensures valid { IfOk result (λ steps. IsTrue (are_steps (cast nodes.now queues.now []) [] steps)) }
+    ensures valid { IfOk result (λ steps. IsTrue (are_steps nodes.now queues.now [] steps)) }
     ensures close { IfOk result (IsClosedOnce closed) }
 {
     let mut steps = Items::new(alloc);
@@ -129,7 +129,7 @@ fn next_step_in(
     requires queues { length queues.now ≤ 64 }
     requires few { length before.now < 4096 }
     ensures exact { Reads (λ s. s) result (within (at_place (length before.now)) (step_unless_closed nodes.now queues.now has_closed before.now (view value.now))) }
-    ensures valid { IfOk result (λ step. IsTrue (is_step (cast nodes.now queues.now []) before.now step)) }
+    ensures valid { IfOk result (λ step. IsTrue (is_step nodes.now queues.now before.now step)) }
     ensures close { IfOk result (λ step. IsTrue (not (has_closed && is_close step))) }
 {
     in_place(
@@ -150,7 +150,7 @@ fn fit_step_in(
     requires queues { length queues.now ≤ 64 }
     requires few { length before.now < 4096 }
     ensures exact { Reads (λ s. s) result (step_unless_closed nodes.now queues.now has_closed before.now (view value.now)) }
-    ensures valid { IfOk result (λ step. IsTrue (is_step (cast nodes.now queues.now []) before.now step)) }
+    ensures valid { IfOk result (λ step. IsTrue (is_step nodes.now queues.now before.now step)) }
     ensures close { IfOk result (λ step. IsTrue (not (has_closed && is_close step))) }
 {
     let step = step_in(alloc, nodes, queues, before, value)?;

@@ -1,8 +1,8 @@
 ghost use Rattle.std.specs.Prelude.{◌≡◌, ◌≤◌, [], IfOk, IsTrue, false, length, map};
 ghost use Rattle.std.specs.List.{list_all, list_any};
 ghost use Rattle.serde_json.specs.View.{view};
-ghost use Rattle.scripts.specs.Scripts.{are_faults_distinct, is_fault, is_master, is_node};
-ghost use Rattle.script_form.specs.Casts.{cast};
+ghost use Rattle.scripts.specs.Scripts.{are_faults_distinct, is_fault, is_master};
+ghost use Rattle.scripts.specs.Steps.{is_node_among};
 ghost use Rattle.script_form.specs.Faults.{IsNewFault, fault_named, fault_of, faults_of, follower_of, is_same_place, next_fault};
 ghost use Rattle.script_form.specs.Misfits.{Reads, at_place, within};
 ghost use Rattle.script_form.specs.Parts.{each, word_of};
@@ -25,7 +25,7 @@ pub(crate) fn faults_in(
 ) -> Result<Items<Fault>, Misfit>
     ensures exact { Reads (λ f. f) result (faults_of nodes.now (view value.now)) }
     ensures limit { IfOk result (λ faults. length faults ≤ 1024) }
-    ensures valid { IfOk result (λ faults. IsTrue (list_all (is_fault (cast nodes.now [] [])) faults)) }
+    ensures valid { IfOk result (λ faults. IsTrue (list_all (is_fault nodes.now) faults)) }
     ensures distinct { IfOk result (λ faults. IsTrue (are_faults_distinct faults)) }
 {
     let values = values_up_to(alloc, value, 1024, LimitName::Faults)?;
@@ -36,7 +36,7 @@ pub(crate) fn faults_in(
 fn each_fault(alloc: Global, nodes: &[ScriptNode], values: &[Value]) -> Result<Items<Fault>, Misfit>
     ensures exact { Reads (λ f. f) result (each (next_fault nodes.now) [] (map view values.now)) }
     ensures count { IfOk result (λ faults. length faults ≡ length values.now) }
-    ensures valid { IfOk result (λ faults. IsTrue (list_all (is_fault (cast nodes.now [] [])) faults)) }
+    ensures valid { IfOk result (λ faults. IsTrue (list_all (is_fault nodes.now) faults)) }
     ensures distinct { IfOk result (λ faults. IsTrue (are_faults_distinct faults)) }
 {
     let mut faults = Items::new(alloc);
@@ -90,7 +90,7 @@ fn has_fault(faults: &[Fault], fault: &Fault) -> bool
 #[tactic(auto, unfolding(crate::specs::Faults::fault_of))]
 fn fault_in(alloc: Global, nodes: &[ScriptNode], value: &Value) -> Result<Fault, Misfit>
     ensures exact { Reads (λ f. f) result (fault_of nodes.now (view value.now)) }
-    ensures valid { IfOk result (λ fault. IsTrue (is_fault (cast nodes.now [] []) fault)) }
+    ensures valid { IfOk result (λ fault. IsTrue (is_fault nodes.now fault)) }
 {
     check_members(alloc, value, &["node", "publication", "kind"])?;
     let named = member(alloc, value, "node")?;
@@ -109,7 +109,7 @@ fn fault_in(alloc: Global, nodes: &[ScriptNode], value: &Value) -> Result<Fault,
 /// The name of a node other than the master.
 fn follower_in(alloc: Global, nodes: &[ScriptNode], value: &Value) -> Result<Text, Misfit>
     ensures exact { Reads (λ n. n) result (follower_of nodes.now (view value.now)) }
-    ensures known { IfOk result (λ name. IsTrue (is_node (cast nodes.now [] []) name)) }
+    ensures known { IfOk result (λ name. IsTrue (is_node_among nodes.now name)) }
     ensures follows { IfOk result (λ name. is_master nodes.now name ≡ false) }
 {
     let node = node_named_in(alloc, nodes, value)?;

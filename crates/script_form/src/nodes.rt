@@ -1,8 +1,8 @@
 ghost use Rattle.std.specs.Prelude.{◌≡◌, ◌≤◌, [], IfOk, IsTrue, length, map};
 ghost use Rattle.std.specs.Option.{option_copied};
 ghost use Rattle.serde_json.specs.View.{view};
-ghost use Rattle.scripts.specs.Scripts.{is_name, is_node, is_node_so};
-ghost use Rattle.script_form.specs.Casts.{cast};
+ghost use Rattle.scripts.specs.Names.{is_name};
+ghost use Rattle.scripts.specs.Steps.{is_node_among, is_node_so};
 ghost use Rattle.script_form.specs.Misfits.{Reads, at_place, within};
 ghost use Rattle.script_form.specs.Naming.{AreNamed, IsNewTo};
 ghost use Rattle.script_form.specs.Parts.{each};
@@ -121,8 +121,8 @@ pub(crate) fn node_named_in<'a>(
     value: &Value,
 ) -> Result<&'a ScriptNode, Misfit>
     ensures exact { Reads (λ n. n.now) result (node_named nodes.now (view value.now)) }
-    ensures known { IfOk result (λ node. IsTrue (is_node (cast nodes.now [] []) node.now.name)) }
-    ensures so { IfOk result (λ node. IsTrue (is_node_so (cast nodes.now [] []) node.now.name node.now.eligible)) }
+    ensures known { IfOk result (λ node. IsTrue (is_node_among nodes.now node.now.name)) }
+    ensures so { IfOk result (λ node. IsTrue (is_node_so nodes.now node.now.name node.now.eligible)) }
 {
     let text = text_in(alloc, value)?;
     match find(nodes, text.as_bytes()) {

@@ -1,6 +1,6 @@
 ghost use Rattle.std.specs.Prelude.{◌≡◌, ◌≤◌, [], IfOk, IfSome, IsTrue, Some, codes, length, map};
 ghost use Rattle.serde_json.specs.View.{view};
-ghost use Rattle.scripts.specs.Scripts.{is_name};
+ghost use Rattle.scripts.specs.Names.{is_name};
 ghost use Rattle.script_form.specs.Misfits.{Reads, at_place, within};
 ghost use Rattle.script_form.specs.Naming.{AreNamed, IsNewTo};
 ghost use Rattle.script_form.specs.Parts.{each, optional, word_of};

@@ -3,7 +3,6 @@ ghost use Rattle.std.specs.List.{list_all};
 ghost use Rattle.serde_json.specs.View.{view};
 ghost use Rattle.scripts.specs.Scripts.{IsScript, are_faults_distinct, is_fault, is_turn};
 ghost use Rattle.scripts.specs.Built.{IsBuilt};
-ghost use Rattle.script_form.specs.Casts.{cast};
 ghost use Rattle.script_form.specs.Faults.{faults_of};
 ghost use Rattle.script_form.specs.Misfits.{Reads};
 ghost use Rattle.script_form.specs.Parts.{optional};
@@ -150,7 +149,7 @@ fn faults_or_none(
 ) -> Result<Items<Fault>, Misfit>
     ensures exact { Reads (λ f. f) result (optional (codes "faults") [] (faults_of nodes.now) (view value.now)) }
     ensures limit { IfOk result (λ faults. length faults ≤ 1024) }
-    ensures valid { IfOk result (λ faults. IsTrue (list_all (is_fault (cast nodes.now [] [])) faults)) }
+    ensures valid { IfOk result (λ faults. IsTrue (list_all (is_fault nodes.now) faults)) }
     ensures distinct { IfOk result (λ faults. IsTrue (are_faults_distinct faults)) }
 {
     match value.get("faults") {
@@ -168,7 +167,7 @@ fn schedule_or_none(
     requires { length clients.now ≤ 32 }
     ensures exact { Reads (λ t. t) result (optional (codes "schedule") [] (schedule_of nodes.now (length clients.now)) (view value.now)) }
     ensures limit { IfOk result (λ turns. length turns ≤ 65536) }
-    ensures valid { IfOk result (λ turns. IsTrue (list_all (is_turn (cast nodes.now [] clients.now)) turns)) }
+    ensures valid { IfOk result (λ turns. IsTrue (list_all (is_turn nodes.now (length clients.now)) turns)) }
 {
     match value.get("schedule") {
         None => Ok(Items::new(alloc)),

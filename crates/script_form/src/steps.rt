@@ -3,8 +3,7 @@ ghost use Rattle.std.specs.List.{list_all};
 ghost use Rattle.std.specs.Option.{option_copied};
 ghost use Rattle.serde_json.specs.View.{view};
 ghost use Rattle.scripts.specs.declared.steps.Goal.TheVariants.{Watch};
-ghost use Rattle.scripts.specs.Scripts.{is_goal, is_pred, is_step, is_positive_time};
-ghost use Rattle.script_form.specs.Casts.{cast};
+ghost use Rattle.scripts.specs.Steps.{is_goal, is_pred, is_step, is_positive_time};
 ghost use Rattle.script_form.specs.Misfits.{Reads};
 ghost use Rattle.script_form.specs.Parts.{optional, positive_of, required, word_of};
 ghost use Rattle.script_form.specs.Predicates.{pred_of, thens_of};
@@ -39,7 +38,7 @@ pub(crate) fn step_in(
     requires queues { length queues.now ≤ 64 }
     requires before { length before.now < 4096 }
     ensures exact { Reads (λ s. s) result (step_of nodes.now queues.now before.now (view value.now)) }
-    ensures valid { IfOk result (λ step. IsTrue (is_step (cast nodes.now queues.now []) before.now step)) }
+    ensures valid { IfOk result (λ step. IsTrue (is_step nodes.now queues.now before.now step)) }
 {
     check_object(alloc, value)?;
     let word = member(alloc, value, "do")?;
@@ -60,7 +59,7 @@ fn step_by_word(
     requires queues { length queues.now ≤ 64 }
     requires before { length before.now < 4096 }
     ensures exact { Reads (λ s. s) result (step_as nodes.now queues.now before.now word.now (view value.now)) }
-    ensures valid { IfOk result (λ step. IsTrue (is_step (cast nodes.now queues.now []) before.now step)) }
+    ensures valid { IfOk result (λ step. IsTrue (is_step nodes.now queues.now before.now step)) }
 {
     match word {
         "submit" => submit_in(alloc, nodes, queues, value),
@@ -84,13 +83,13 @@ fn submit_in(
 ) -> Result<Step, Misfit>
     requires { length queues.now ≤ 64 }
     ensures exact { Reads (λ s. s) result (submit_of nodes.now queues.now (view value.now)) }
-    ensures valid { IfOk result (λ step. IsTrue (is_step (cast nodes.now queues.now []) [] step)) }
+    ensures valid { IfOk result (λ step. IsTrue (is_step nodes.now queues.now [] step)) }
 {
     check_members(alloc, value, &["do", "queue", "task", "timeout", "ack"])?;
     let named = member(alloc, value, "queue")?;
     let (queue, executor) = in_member(alloc, "queue", queue_named_in(alloc, queues, named))?;
     let task = member(alloc, value, "task")?;
-    let task = in_member(alloc, "task", task_in(alloc, nodes, executor, task))?;
+    let task = in_member(alloc, "task", task_in(alloc, nodes, executor.form(), task))?;
     let timeout = time_or_zero(alloc, value, "timeout")?;
     let ack = ack_or_none(alloc, nodes, value)?;
     Ok(Step::Submit {
@@ -113,7 +112,7 @@ fn some_unless_zero(ms: u64) -> Option<u64>
 fn await_in(alloc: Global, before: &[Step], value: &Value) -> Result<Step, Misfit>
     requires { length before.now < 4096 }
     ensures exact { Reads (λ s. s) result (await_of before.now (view value.now)) }
-    ensures valid { IfOk result (λ step. IsTrue (is_step (cast [] [] []) before.now step)) }
+    ensures valid { IfOk result (λ step. IsTrue (is_step [] [] before.now step)) }
 {
     check_members(alloc, value, &["do", "step", "for"])?;
     let step = member(alloc, value, "step")?;
@@ -160,7 +159,7 @@ fn goal_of_word(word: &str) -> Option<Goal>
 /// An await of a step that has to be of the kind that the goal needs.
 fn check_await(alloc: Global, before: &[Step], step: u32, goal: Goal) -> Result<Step, Misfit>
     ensures exact { Reads (λ s. s) result (fit_await before.now step goal) }
-    ensures valid { IfOk result (λ step. IsTrue (is_step (cast [] [] []) before.now step)) }
+    ensures valid { IfOk result (λ step. IsTrue (is_step [] [] before.now step)) }
 {
     if does_suit(goal, before.get(step as usize)) {
         Ok(Step::Await { step, goal })
@@ -186,7 +185,7 @@ fn does_suit(goal: Goal, step: Option<&Step>) -> bool
 #[tactic(auto, unfolding(crate::specs::Steps::watch_of))]
 fn watch_in(alloc: Global, nodes: &[ScriptNode], value: &Value) -> Result<Step, Misfit>
     ensures exact { Reads (λ s. s) result (watch_of nodes.now (view value.now)) }
-    ensures valid { IfOk result (λ step. IsTrue (is_step (cast nodes.now [] []) [] step)) }
+    ensures valid { IfOk result (λ step. IsTrue (is_step nodes.now [] [] step)) }
 {
     check_members(alloc, value, &["do", "node", "pred", "then", "timeout"])?;
     let named = member(alloc, value, "node")?;
@@ -207,7 +206,7 @@ fn watch_in(alloc: Global, nodes: &[ScriptNode], value: &Value) -> Result<Step, 
 fn next_in(alloc: Global, before: &[Step], value: &Value) -> Result<Step, Misfit>
     requires { length before.now < 4096 }
     ensures exact { Reads (λ s. s) result (next_watch_of before.now (view value.now)) }
-    ensures valid { IfOk result (λ step. IsTrue (is_step (cast [] [] []) before.now step)) }
+    ensures valid { IfOk result (λ step. IsTrue (is_step [] [] before.now step)) }
 {
     check_members(alloc, value, &["do", "watch", "pred", "then", "timeout"])?;
     let watch = member(alloc, value, "watch")?;
@@ -273,7 +272,7 @@ fn positive_at(alloc: Global, value: &Value, key: &str) -> Result<u64, Misfit>
 #[tactic(auto, unfolding(crate::specs::Steps::read_of))]
 fn read_in(alloc: Global, nodes: &[ScriptNode], value: &Value) -> Result<Step, Misfit>
     ensures exact { Reads (λ s. s) result (read_of nodes.now (view value.now)) }
-    ensures valid { IfOk result (λ step. IsTrue (is_step (cast nodes.now [] []) [] step)) }
+    ensures valid { IfOk result (λ step. IsTrue (is_step nodes.now [] [] step)) }
 {
     check_members(alloc, value, &["do", "node", "index", "alias", "setting"])?;
     let named = member(alloc, value, "node")?;
@@ -317,7 +316,7 @@ fn look_in(alloc: Global, value: &Value) -> Result<Look, Misfit>
 #[tactic(auto, unfolding(crate::specs::Steps::sleep_of))]
 fn sleep_in(alloc: Global, value: &Value) -> Result<Step, Misfit>
     ensures exact { Reads (λ s. s) result (sleep_of (view value.now)) }
-    ensures valid { IfOk result (λ step. IsTrue (is_step (cast [] [] []) [] step)) }
+    ensures valid { IfOk result (λ step. IsTrue (is_step [] [] [] step)) }
 {
     check_members(alloc, value, &["do", "ms"])?;
     let ms = member(alloc, value, "ms")?;
@@ -328,7 +327,7 @@ fn sleep_in(alloc: Global, value: &Value) -> Result<Step, Misfit>
 #[tactic(auto, unfolding(crate::specs::Steps::close_of))]
 fn close_in(alloc: Global, value: &Value) -> Result<Step, Misfit>
     ensures exact { Reads (λ s. s) result (close_of (view value.now)) }
-    ensures valid { IfOk result (λ step. IsTrue (is_step (cast [] [] []) [] step)) }
+    ensures valid { IfOk result (λ step. IsTrue (is_step [] [] [] step)) }
 {
     check_members(alloc, value, &["do"])?;
     Ok(Step::Close)

@@ -1,8 +1,7 @@
 ghost use Rattle.std.specs.Prelude.{◌≡◌, [], IfOk, IsTrue, Ok};
 ghost use Rattle.serde_json.specs.View.{view};
-ghost use Rattle.executors.specs.declared.kinds.Kind.TheVariants as kind;
-ghost use Rattle.scripts.specs.Scripts.{is_task_for};
-ghost use Rattle.script_form.specs.Casts.{cast};
+ghost use Rattle.executors.specs.declared.task_forms.TaskForm.TheVariants as form;
+ghost use Rattle.scripts.specs.Steps.{is_task_of};
 ghost use Rattle.script_form.specs.Misfits.{Reads};
 ghost use Rattle.script_form.specs.Parts.{required, word_of};
 ghost use Rattle.script_form.specs.Tasks.{addition_named, alias_task_of, cluster_setting_of, creation_of, deletion_of, index_setting_of, joining_named, node_task, node_task_of, opening_of, reelection_of, setting_value_of, task_of};
@@ -11,40 +10,39 @@ use crate::misfits::{Misfit, against, in_member};
 use crate::nodes::node_named_in;
 use crate::parts::{check_members, flag_in, member, text_at, text_in, whole_at, whole_or};
 use crate::rules::Rule;
-use executors::{Kind, Task};
+use executors::{Task, TaskForm};
 use meta_state::NodeInfo;
 use plain_data::Text;
 use scripts::ScriptNode;
 use serde_json::Value;
 use std::alloc::Global;
 
-/// The task of a submit to a queue of this executor.
+/// The task of a submit, of the form that its queue's executor takes.
 pub(crate) fn task_in(
     alloc: Global,
     nodes: &[ScriptNode],
-    executor: Kind,
+    form: TaskForm,
     value: &Value,
 ) -> Result<Task, Misfit>
-    ensures exact { Reads (λ t. t) result (task_of nodes.now executor (view value.now)) }
-    ensures valid { IfOk result (λ task. IsTrue (is_task_for (cast nodes.now [] []) executor task)) }
+    ensures exact { Reads (λ t. t) result (task_of nodes.now form (view value.now)) }
+    ensures valid { IfOk result (λ task. IsTrue (is_task_of nodes.now form task)) }
 {
-    match executor {
-        Kind::CreateIndex => creation_in(alloc, value),
-        Kind::DeleteIndex => deletion_in(alloc, value),
-        Kind::IndexSettings => index_setting_in(alloc, value),
-        Kind::OpenClose => opening_in(alloc, value),
-        Kind::Aliases => alias_task_in(alloc, value),
-        Kind::AliasesAtomic => alias_task_in(alloc, value),
-        Kind::ClusterSettings => cluster_setting_in(alloc, value),
-        Kind::Nodes => node_task_in(alloc, nodes, value),
-        Kind::Reelect => reelection_in(alloc, value),
+    match form {
+        TaskForm::CreateIndex => creation_in(alloc, value),
+        TaskForm::DeleteIndex => deletion_in(alloc, value),
+        TaskForm::IndexSetting => index_setting_in(alloc, value),
+        TaskForm::OpenClose => opening_in(alloc, value),
+        TaskForm::Alias => alias_task_in(alloc, value),
+        TaskForm::ClusterSetting => cluster_setting_in(alloc, value),
+        TaskForm::Node => node_task_in(alloc, nodes, value),
+        TaskForm::Reelect => reelection_in(alloc, value),
     }
 }
 
 #[tactic(auto, unfolding(crate::specs::Tasks::creation_of))]
 fn creation_in(alloc: Global, value: &Value) -> Result<Task, Misfit>
     ensures exact { Reads (λ t. t) result (creation_of (view value.now)) }
-    ensures valid { IfOk result (λ task. IsTrue (is_task_for (cast [] [] []) kind.CreateIndex task)) }
+    ensures valid { IfOk result (λ task. IsTrue (is_task_of [] form.CreateIndex task)) }
 {
     check_members(alloc, value, &["index", "shards", "replicas"])?;
     let index = text_at(alloc, value, "index")?;
@@ -60,7 +58,7 @@ fn creation_in(alloc: Global, value: &Value) -> Result<Task, Misfit>
 #[tactic(auto, unfolding(crate::specs::Tasks::deletion_of))]
 fn deletion_in(alloc: Global, value: &Value) -> Result<Task, Misfit>
     ensures exact { Reads (λ t. t) result (deletion_of (view value.now)) }
-    ensures valid { IfOk result (λ task. IsTrue (is_task_for (cast [] [] []) kind.DeleteIndex task)) }
+    ensures valid { IfOk result (λ task. IsTrue (is_task_of [] form.DeleteIndex task)) }
 {
     check_members(alloc, value, &["index"])?;
     let index = text_at(alloc, value, "index")?;
@@ -70,7 +68,7 @@ fn deletion_in(alloc: Global, value: &Value) -> Result<Task, Misfit>
 #[tactic(auto, unfolding(crate::specs::Tasks::index_setting_of))]
 fn index_setting_in(alloc: Global, value: &Value) -> Result<Task, Misfit>
     ensures exact { Reads (λ t. t) result (index_setting_of (view value.now)) }
-    ensures valid { IfOk result (λ task. IsTrue (is_task_for (cast [] [] []) kind.IndexSettings task)) }
+    ensures valid { IfOk result (λ task. IsTrue (is_task_of [] form.IndexSetting task)) }
 {
     check_members(alloc, value, &["index", "key", "value"])?;
     let index = text_at(alloc, value, "index")?;
@@ -86,7 +84,7 @@ fn index_setting_in(alloc: Global, value: &Value) -> Result<Task, Misfit>
 #[tactic(auto, unfolding(crate::specs::Tasks::opening_of))]
 fn opening_in(alloc: Global, value: &Value) -> Result<Task, Misfit>
     ensures exact { Reads (λ t. t) result (opening_of (view value.now)) }
-    ensures valid { IfOk result (λ task. IsTrue (is_task_for (cast [] [] []) kind.OpenClose task)) }
+    ensures valid { IfOk result (λ task. IsTrue (is_task_of [] form.OpenClose task)) }
 {
     check_members(alloc, value, &["index", "open"])?;
     let index = text_at(alloc, value, "index")?;
@@ -98,8 +96,7 @@ fn opening_in(alloc: Global, value: &Value) -> Result<Task, Misfit>
 #[tactic(auto, unfolding(crate::specs::Tasks::alias_task_of))]
 fn alias_task_in(alloc: Global, value: &Value) -> Result<Task, Misfit>
     ensures exact { Reads (λ t. t) result (alias_task_of (view value.now)) }
-    ensures valid { IfOk result (λ task. IsTrue (is_task_for (cast [] [] []) kind.Aliases task)) }
-    ensures atomic { IfOk result (λ task. IsTrue (is_task_for (cast [] [] []) kind.AliasesAtomic task)) }
+    ensures valid { IfOk result (λ task. IsTrue (is_task_of [] form.Alias task)) }
 {
     check_members(alloc, value, &["index", "alias", "action"])?;
     let index = text_at(alloc, value, "index")?;
@@ -133,7 +130,7 @@ fn addition_of_word(word: &str) -> Option<bool>
 #[tactic(auto, unfolding(crate::specs::Tasks::cluster_setting_of))]
 fn cluster_setting_in(alloc: Global, value: &Value) -> Result<Task, Misfit>
     ensures exact { Reads (λ t. t) result (cluster_setting_of (view value.now)) }
-    ensures valid { IfOk result (λ task. IsTrue (is_task_for (cast [] [] []) kind.ClusterSettings task)) }
+    ensures valid { IfOk result (λ task. IsTrue (is_task_of [] form.ClusterSetting task)) }
 {
     check_members(alloc, value, &["key", "value"])?;
     let key = text_at(alloc, value, "key")?;
@@ -161,7 +158,7 @@ fn setting_value_in(alloc: Global, value: &Value) -> Result<Option<Text>, Misfit
 #[tactic(auto, unfolding(crate::specs::Tasks::node_task_of))]
 fn node_task_in(alloc: Global, nodes: &[ScriptNode], value: &Value) -> Result<Task, Misfit>
     ensures exact { Reads (λ t. t) result (node_task_of nodes.now (view value.now)) }
-    ensures valid { IfOk result (λ task. IsTrue (is_task_for (cast nodes.now [] []) kind.Nodes task)) }
+    ensures valid { IfOk result (λ task. IsTrue (is_task_of nodes.now form.Node task)) }
 {
     check_members(alloc, value, &["node", "action"])?;
     let named = member(alloc, value, "node")?;
@@ -212,7 +209,7 @@ fn joining_of_word(word: &str) -> Option<bool>
 #[tactic(auto, unfolding(crate::specs::Tasks::reelection_of))]
 fn reelection_in(alloc: Global, value: &Value) -> Result<Task, Misfit>
     ensures exact { Reads (λ t. t) result (reelection_of (view value.now)) }
-    ensures valid { IfOk result (λ task. IsTrue (is_task_for (cast [] [] []) kind.Reelect task)) }
+    ensures valid { IfOk result (λ task. IsTrue (is_task_of [] form.Reelect task)) }
 {
     check_members(alloc, value, &[])?;
     Ok(Task::Reelect)

@@ -2,7 +2,6 @@ ghost use Rattle.std.specs.Prelude.{◌≡◌, ◌≤◌, [], IfOk, IsTrue, leng
 ghost use Rattle.std.specs.List.{list_all};
 ghost use Rattle.serde_json.specs.View.{view};
 ghost use Rattle.scripts.specs.Scripts.{is_turn};
-ghost use Rattle.script_form.specs.Casts.{cast};
 ghost use Rattle.script_form.specs.Misfits.{Reads, at_place, within};
 ghost use Rattle.script_form.specs.Nodes.{find_node};
 ghost use Rattle.script_form.specs.Parts.{each};
@@ -28,7 +27,7 @@ pub(crate) fn schedule_in(
     requires { length clients.now ≤ 32 }
     ensures exact { Reads (λ t. t) result (schedule_of nodes.now (length clients.now) (view value.now)) }
     ensures limit { IfOk result (λ turns. length turns ≤ 65536) }
-    ensures valid { IfOk result (λ turns. IsTrue (list_all (is_turn (cast nodes.now [] clients.now)) turns)) }
+    ensures valid { IfOk result (λ turns. IsTrue (list_all (is_turn nodes.now (length clients.now)) turns)) }
 {
     let values = values_up_to(alloc, value, 65536, LimitName::Schedule)?;
     each_turn(alloc, nodes, clients, values)
@@ -44,7 +43,7 @@ fn each_turn(
     requires { length clients.now ≤ 32 }
     ensures exact { Reads (λ t. t) result (each (next_turn nodes.now (length clients.now)) [] (map view values.now)) }
     ensures count { IfOk result (λ turns. length turns ≡ length values.now) }
-    ensures valid { IfOk result (λ turns. IsTrue (list_all (is_turn (cast nodes.now [] clients.now)) turns)) }
+    ensures valid { IfOk result (λ turns. IsTrue (list_all (is_turn nodes.now (length clients.now)) turns)) }
 {
     let mut turns = Items::new(alloc);
     for value in values {
@@ -64,7 +63,7 @@ fn next_turn_in(
 ) -> Result<ScriptTurn, Misfit>
     requires { length clients.now ≤ 32 }
     ensures exact { Reads (λ t. t) result (within (at_place place) (turn_of nodes.now (length clients.now) (view value.now))) }
-    ensures valid { IfOk result (λ turn. IsTrue (is_turn (cast nodes.now [] clients.now) turn)) }
+    ensures valid { IfOk result (λ turn. IsTrue (is_turn nodes.now (length clients.now) turn)) }
 {
     in_place(alloc, place, turn_in_value(alloc, nodes, clients, value))
 }
@@ -78,7 +77,7 @@ fn turn_in_value(
 ) -> Result<ScriptTurn, Misfit>
     requires { length clients.now ≤ 32 }
     ensures exact { Reads (λ t. t) result (turn_of nodes.now (length clients.now) (view value.now)) }
-    ensures valid { IfOk result (λ turn. IsTrue (is_turn (cast nodes.now [] clients.now) turn)) }
+    ensures valid { IfOk result (λ turn. IsTrue (is_turn nodes.now (length clients.now) turn)) }
 {
     let text = text_in(alloc, value)?;
     turn_of_text(alloc, nodes, clients, text.as_bytes())
@@ -93,7 +92,7 @@ fn turn_of_text(
 ) -> Result<ScriptTurn, Misfit>
     requires { length clients.now ≤ 32 }
     ensures exact { Reads (λ t. t) result (turn_in nodes.now (length clients.now) text.now) }
-    ensures valid { IfOk result (λ turn. IsTrue (is_turn (cast nodes.now [] clients.now) turn)) }
+    ensures valid { IfOk result (λ turn. IsTrue (is_turn nodes.now (length clients.now) turn)) }
 {
     match text.split_first() {
         None => Err(against(alloc, Rule::Value)),
@@ -114,7 +113,7 @@ fn turn_of_text(
 /// The master's turn, where nothing follows.
 fn master_turn_of(alloc: Global, rest: &[u8]) -> Result<ScriptTurn, Misfit>
     ensures exact { Reads (λ t. t) result (master_turn rest.now) }
-    ensures valid { IfOk result (λ turn. IsTrue (is_turn (cast [] [] []) turn)) }
+    ensures valid { IfOk result (λ turn. IsTrue (is_turn [] 0 turn)) }
 {
     if rest.is_empty() {
         Ok(ScriptTurn::Master)
@@ -131,7 +130,7 @@ fn client_turn_of(
 ) -> Result<ScriptTurn, Misfit>
     requires { length clients.now ≤ 32 }
     ensures exact { Reads (λ t. t) result (client_turn (length clients.now) digits.now) }
-    ensures valid { IfOk result (λ turn. IsTrue (is_turn (cast [] [] clients.now) turn)) }
+    ensures valid { IfOk result (λ turn. IsTrue (is_turn [] (length clients.now) turn)) }
 {
     if !is_number(digits) {
         return Err(against(alloc, Rule::Value));
@@ -191,7 +190,7 @@ fn one_more(number: u32, digit: u8) -> u32
 /// The turn of the node of a name, which follows a colon.
 fn node_turn_of(alloc: Global, nodes: &[ScriptNode], rest: &[u8]) -> Result<ScriptTurn, Misfit>
     ensures exact { Reads (λ t. t) result (named_turn nodes.now rest.now) }
-    ensures valid { IfOk result (λ turn. IsTrue (is_turn (cast nodes.now [] []) turn)) }
+    ensures valid { IfOk result (λ turn. IsTrue (is_turn nodes.now 0 turn)) }
 {
     match rest.split_first() {
         None => Err(against(alloc, Rule::Value)),
@@ -207,7 +206,7 @@ fn node_turn_of(alloc: Global, nodes: &[ScriptNode], rest: &[u8]) -> Result<Scri
 #[tactic(auto, using(crate::proofs::Names::is_node_found))]
 fn node_turn_by_name(alloc: Global, nodes: &[ScriptNode], name: &[u8]) -> Result<ScriptTurn, Misfit>
     ensures exact { Reads (λ t. t) result (node_turn (find_node nodes.now name.now)) }
-    ensures valid { IfOk result (λ turn. IsTrue (is_turn (cast nodes.now [] []) turn)) }
+    ensures valid { IfOk result (λ turn. IsTrue (is_turn nodes.now 0 turn)) }
 {
     match find(nodes, name) {
         None => Err(against(alloc, Rule::Reference)),

@@ -1,6 +1,8 @@
 ghost use Rattle.std.specs.Prelude.{◌≡◌};
 ghost use Rattle.std.specs.List.{list_all};
-ghost use Rattle.scripts.specs.Scripts.{begins_well, is_name, is_name_byte, is_name_start};
+ghost use Rattle.scripts.specs.Names.{is_name, is_name_byte};
+
+use executors::{does_begin_well, is_alphanumeric};
 
 /// Whether it is a name that a cluster, a node or a queue may have: 1 to 64 bytes of `a` to `z`, `0` to `9`, `_` and
 /// `-` that begin with a letter or a digit.
@@ -17,23 +19,8 @@ fn has_bytes_of_names(bytes: &[u8]) -> bool
     bytes.iter().all(|byte| is_byte_of_names(*byte))
 }
 
-fn does_begin_well(bytes: &[u8]) -> bool
-    ensures { result ≡ begins_well bytes.now }
-{
-    match bytes.first() {
-        None => false,
-        Some(first) => is_start_of_names(*first),
-    }
-}
-
-fn is_start_of_names(byte: u8) -> bool
-    ensures { result ≡ is_name_start byte }
-{
-    matches!(byte, b'a'..=b'z' | b'0'..=b'9')
-}
-
 fn is_byte_of_names(byte: u8) -> bool
     ensures { result ≡ is_name_byte byte }
 {
-    is_start_of_names(byte) || byte == b'_' || byte == b'-'
+    is_alphanumeric(byte) || byte == b'_' || byte == b'-'
 }

@@ -5,7 +5,7 @@ use Rattle.meta_state.specs.Json.{state_json}
 use Rattle.session_law.specs.declared.task_ends.TaskEnd.{TaskEnd}
 use Rattle.session_law.specs.declared.task_ends.TaskEnd.TheVariants as end
 use Rattle.executors.specs.declared.refusals.TaskRefusal.{TaskRefusal}
-use Rattle.executors.specs.Words.{refusal_word}
+use Rattle.executors.specs.Refusals.{refusal_word}
 use Rattle.session_law.specs.declared.batches.Batch.{Batch}
 use Rattle.session_law.specs.declared.batches.BatchResult.{BatchResult}
 use Rattle.session_law.specs.declared.batches.BatchResult.TheVariants as result

@@ -6,7 +6,8 @@ use Rattle.std.proofs.Common.{sym, ap, ◌∙◌, arith}
 use Rattle.meta_state.specs.declared.predicates.Pred.{fold-roll-Pred}
 use Rattle.meta_state.specs.declared.predicates.Pred.TheOpen.{Pred-F}
 use Rattle.meta_state.specs.declared.predicates.Pred.TheVariants.{Index, Setting, rolls-Index, rolls-Setting}
-use Rattle.scripts.specs.Scripts.{IsScript, depth_of, depth_step, is_client, is_pred}
+use Rattle.scripts.specs.Scripts.{IsScript}
+use Rattle.scripts.specs.Steps.{depth_of, depth_step, is_client, is_pred}
 use Rattle.worked_sessions.specs.Awaiting.{awaiting_script}
 use Rattle.worked_sessions.specs.Mixed.{mixed_script}
 use Rattle.worked_sessions.specs.Stopped.{stopped_script}
@@ -23,16 +24,16 @@ setting_pred key value = ap (λ d. nat_le d 16) (ap depth_of (sym (rolls-Setting
 index_watched : (name : List ℕ) → ((is_pred (Index name) && true) && true) ≡ true
 index_watched name = λ i. (index_pred name i && true) && true
 
-awaiting_clients : IsTrue (list_all (is_client awaiting_script) awaiting_script.clients)
+awaiting_clients : IsTrue (list_all (is_client awaiting_script.nodes awaiting_script.queues) awaiting_script.clients)
 awaiting_clients = λ i. (index_watched (codes "a") i && true) && true
 
-worked_clients : IsTrue (list_all (is_client worked_script) worked_script.clients)
+worked_clients : IsTrue (list_all (is_client worked_script.nodes worked_script.queues) worked_script.clients)
 worked_clients = λ i. (index_watched (codes "a") i && true) && ((index_watched (codes "b") i && true) && true)
 
-stopped_clients : IsTrue (list_all (is_client stopped_script) stopped_script.clients)
+stopped_clients : IsTrue (list_all (is_client stopped_script.nodes stopped_script.queues) stopped_script.clients)
 stopped_clients = λ i. (((index_pred (codes "a") i && (setting_pred (codes "k") (codes "v") i && true)) && true) && (index_watched (codes "c") i && (index_watched (codes "b") i && true))) && ((index_watched (codes "c") i && (index_watched (codes "c") i && true)) && true)
 
-mixed_clients : IsTrue (list_all (is_client mixed_script) mixed_script.clients)
+mixed_clients : IsTrue (list_all (is_client mixed_script.nodes mixed_script.queues) mixed_script.clients)
 mixed_clients = λ i. (index_watched (codes "a") i && true) && true
 
 pub worked_valid : IsScript worked_script

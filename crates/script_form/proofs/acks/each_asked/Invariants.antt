@@ -1,8 +1,7 @@
 use Rattle.std.proofs.Common.{◌≡◌, drop, []}
 use Rattle.std.specs.Prelude.{map, IsTrue}
 use Rattle.serde_json.specs.View.{view}
-use Rattle.scripts.specs.Scripts.{are_asked}
-use Rattle.script_form.specs.Casts.{cast}
+use Rattle.scripts.specs.Steps.{are_asked}
 use Rattle.script_form.specs.Parts.{each}
 use Rattle.script_form.specs.Steps.{next_asked}
 use Rattle.script_form.proofs.acks.each_asked.Given as goal
@@ -11,5 +10,5 @@ use Rattle.script_form.proofs.acks.each_asked.Given as goal
 abbrev pub invariant-loop-value : goal.invariant-loop-value
 invariant-loop-value l = record {
   going : each (next_asked l.nodes) l.asked (map view (drop l.value-index l.values)) ≡ each (next_asked l.nodes) [] (map view l.values);
-  valid : IsTrue (are_asked (cast l.nodes [] []) l.asked);
+  valid : IsTrue (are_asked l.nodes l.asked);
 }

@@ -1,4 +1,4 @@
--- The words of a report for the executors' refusals. They are this project's own.
+-- The refusals of tasks: the word of a report for each, and its number. They are this project's own.
 use Rattle.std.specs.Prelude.{ℕ, List, codes}
 use Rattle.executors.specs.declared.refusals.TaskRefusal.{TaskRefusal}
 use Rattle.executors.specs.declared.refusals.TaskRefusal.TheVariants.{Exists, NotFound, InvalidName, FinalSetting, BadValue, AliasClash, NodeKnown, NodeUnknown, MasterMayNotLeave}
@@ -13,3 +13,14 @@ refusal_word AliasClash = codes "alias_clash"
 refusal_word NodeKnown = codes "node_known"
 refusal_word NodeUnknown = codes "node_unknown"
 refusal_word MasterMayNotLeave = codes "master_may_not_leave"
+
+abbrev pub refusal_number : TaskRefusal → ℕ
+refusal_number Exists = 1
+refusal_number NotFound = 2
+refusal_number InvalidName = 3
+refusal_number FinalSetting = 4
+refusal_number BadValue = 5
+refusal_number AliasClash = 6
+refusal_number NodeKnown = 7
+refusal_number NodeUnknown = 8
+refusal_number MasterMayNotLeave = 9
