@@ -6,9 +6,7 @@ use std::thread::join;
 
 // The number after `state` in a sequence that looks like chance and is the same each time.
 fn scattered(state: u64) -> u64 {
-    state
-        .wrapping_mul(6364136223846793005)
-        .wrapping_add(1442695040888963407)
+    state.wrapping_mul(6364136223846793005).wrapping_add(1)
 }
 
 fn key_of(alloc: Global, number: u64) -> Result<Text, Fail> {
@@ -98,7 +96,7 @@ fn a_map_does_what_a_plain_map_does(rt: HostRuntime) -> Result<(), Fail> {
 fn number_of(kind: u64, turn: u64) -> u64 {
     match kind {
         0 => turn,
-        1 => 1000u64.saturating_sub(turn),
+        1 => 1000 - turn % 1000,
         _ => scattered(turn) >> 44,
     }
 }
@@ -141,6 +139,13 @@ fn a_copy_is_read_from_another_thread(rt: HostRuntime) -> Result<(), Fail> {
     Ok(())
 }
 
+fn is_word(name: Option<&Text>, word: &str) -> bool {
+    match name {
+        None => false,
+        Some(name) => name.as_str() == word,
+    }
+}
+
 #[test]
 fn names_are_shown_in_byte_order(rt: HostRuntime) -> Result<(), Fail> {
     let alloc = rt.alloc();
@@ -151,9 +156,7 @@ fn names_are_shown_in_byte_order(rt: HostRuntime) -> Result<(), Fail> {
     names.remove(&Text::from_str(alloc, "a")?)?;
     let copy = names.copy()?;
     let mut left = copy.iter();
-    assert_eq!(rt; left.next().map(|name| name.as_str()), Some("B"));
-    assert_eq!(rt; left.next().map(|name| name.as_str()), Some("b"));
-    assert!(rt; left.next().is_none());
+    assert!(rt; is_word(left.next(), "B") && is_word(left.next(), "b") && left.next().is_none());
     Ok(())
 }
 
