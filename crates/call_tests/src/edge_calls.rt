@@ -1,4 +1,7 @@
-use crate::*;
+use edge_io::{
+    Clock, CollectFault, Collector, Emitter, Failed, Frozen, Gate, LAST_MOMENT, MemSink, MemSource,
+    MillisClock, OpenGate, Sink, Source, StdSink, StdSource, WriteFault,
+};
 use std::alloc::Global;
 use std::test::Fail;
 use std::{io, time};
@@ -84,17 +87,20 @@ fn a_text_is_emitted_as_far_as_the_sink_takes_it(rt: HostRuntime) -> Result<(), 
 }
 
 // A reader and a writer of two bytes a call. From the third call on it fails its reads, and its writes take nothing.
+// Where it is stuck it takes what it is given and can't flush it.
 #[derive(Drop)]
 struct Fickle {
     calls: u64,
     taken: Vec<u8>,
+    stuck: bool,
 }
 
 impl Fickle {
-    fn new(alloc: Global) -> Fickle {
+    fn new(alloc: Global, stuck: bool) -> Fickle {
         Fickle {
             calls: 0,
             taken: Vec::new(alloc),
+            stuck,
         }
     }
 }
@@ -125,6 +131,9 @@ impl io::Write for Fickle {
     }
 
     fn flush(&mut self) -> io::Result<()> {
+        if self.stuck {
+            return Err(io::Error::from(io::ErrorKind::Other));
+        }
         Ok(())
     }
 }
@@ -133,7 +142,7 @@ impl io::Write for Fickle {
 fn a_standard_source_passes_bytes_and_errors_on(rt: HostRuntime) -> Result<(), Fail> {
     let alloc = rt.alloc();
     let mut into = [0u8; 3];
-    let mut source = StdSource::new(Fickle::new(alloc));
+    let mut source = StdSource::new(Fickle::new(alloc, false));
     assert_eq!(rt; source.read_some(&mut into), Ok(2));
     assert_eq!(rt; into, *b"xx\0");
     assert_eq!(rt; source.read_some(&mut into), Ok(2));
@@ -148,7 +157,7 @@ fn a_standard_sink_passes_bytes_on_and_refuses_a_write_of_nothing(
     rt: HostRuntime,
 ) -> Result<(), Fail> {
     let alloc = rt.alloc();
-    let mut writer = Fickle::new(alloc);
+    let mut writer = Fickle::new(alloc, false);
     let mut sink = StdSink::new(&mut writer);
     assert_eq!(rt; Emitter::all(&mut sink, &TEXT), Err(WriteFault));
     assert_eq!(rt; writer.taken.as_slice(), b"elev".as_slice());
@@ -157,21 +166,36 @@ fn a_standard_sink_passes_bytes_on_and_refuses_a_write_of_nothing(
     Ok(())
 }
 
+#[test]
+fn a_piece_that_cannot_be_flushed_is_a_fault(rt: HostRuntime) -> Result<(), Fail> {
+    let mut writer = Fickle::new(rt.alloc(), true);
+    let mut sink = StdSink::new(&mut writer);
+    assert_eq!(rt; sink.write_some(&TEXT), Err(Failed));
+    assert_eq!(rt; writer.taken.as_slice(), b"el".as_slice());
+    Ok(())
+}
+
 // Takes what several threads may look at.
 fn shared<T: Sync>(value: &T) -> &T {
     value
 }
 
-// A clock that can't be read.
-struct Broken;
+// A clock that stands so many seconds after the system's start, or can't be read.
+#[derive(Drop)]
+struct Standing {
+    seconds: Option<u64>,
+}
 
-impl time::Clock for Broken {
+impl time::Clock for Standing {
     fn monotonic(&self) -> io::Result<time::Duration> {
-        Err(io::Error::from(io::ErrorKind::Other))
+        match self.seconds {
+            Some(seconds) => Ok(time::Duration::from_secs(seconds)),
+            None => Err(io::Error::from(io::ErrorKind::Other)),
+        }
     }
 
     fn since_1970(&self) -> io::Result<time::Duration> {
-        Err(io::Error::from(io::ErrorKind::Other))
+        self.monotonic()
     }
 }
 
@@ -179,12 +203,20 @@ impl time::Clock for Broken {
 fn clocks_tell_their_moments(rt: HostRuntime) -> Result<(), Fail> {
     assert_eq!(rt; Frozen::new(7).now(), 7);
     assert_eq!(rt; Frozen::new(LAST_MOMENT).now(), 8_796_093_022_206);
-    assert_eq!(rt; MillisClock::new(&Broken).now(), 0);
+    shared(&OpenGate).pass(0, 0);
+    Ok(())
+}
+
+#[test]
+fn a_clock_over_the_system_begins_at_0(rt: HostRuntime) -> Result<(), Fail> {
+    // a day after the system's start, and where the system's clock can't be read
+    for seconds in [Some(86_400u64), None] {
+        assert_eq!(rt; MillisClock::new(&Standing { seconds }).now(), 0);
+    }
     let clock = MillisClock::new(&rt);
     let first = shared(&clock).now();
     time::Clock::sleep(&rt, time::Duration::from_millis(20));
     let second = clock.now();
-    assert!(rt; first + 20 <= second && second < first + 10_000);
-    shared(&OpenGate).pass(0, 0);
+    assert!(rt; first < 10_000 && first + 20 <= second && second < first + 10_000);
     Ok(())
 }
