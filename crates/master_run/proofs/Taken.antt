@@ -14,7 +14,7 @@ use Rattle.scripts.specs.Built.{IsBuilt, is_built_step}
 use Rattle.executors.specs.Kinds.{accepts}
 use Rattle.scripts.proofs.Takes.{accepts_task_for}
 use Rattle.scripts.specs.Scripts.{IsScript}
-use Rattle.scripts.specs.Steps.{are_steps, is_client, is_queue_for, is_step}
+use Rattle.scripts.specs.ValidSteps.{are_steps, is_client, is_queue_for, is_step}
 use Rattle.session_law.specs.declared.batches.Batch.{Batch}
 use Rattle.session_law.specs.declared.batches.Entry.{Entry}
 use Rattle.session_law.specs.Histories.{IsOwn, Queued, is_named, is_own_step, kind_named, queued_in, queued_of, step_at, submitted, task_at, tasks_at}

@@ -6,7 +6,7 @@ use Rattle.scripts.specs.declared.whole_script.Script.{Script}
 use Rattle.scripts.specs.Built.{is_built}
 use Rattle.scripts.specs.Names.{is_name}
 use Rattle.scripts.specs.Scripts.{alias_reads, are_faults_distinct, is_fault, is_turn, submits}
-use Rattle.scripts.specs.Steps.{is_client}
+use Rattle.scripts.specs.ValidSteps.{is_client}
 use Rattle.script_form.specs.declared.limits.LimitName.TheVariants.{Work}
 use Rattle.script_form.specs.declared.misfits.Misfit.{Misfit}
 use Rattle.script_form.specs.declared.misfits.Misfit.TheVariants as misfit

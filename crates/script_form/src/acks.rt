@@ -1,7 +1,7 @@
 ghost use Rattle.std.specs.Prelude.{◌≡◌, [], IfOk, IsTrue, None, bytes_eq, codes, length, map};
 ghost use Rattle.std.specs.List.{list_any};
 ghost use Rattle.serde_json.specs.View.{view};
-ghost use Rattle.scripts.specs.Steps.{are_asked, is_ack, is_if_some, is_time};
+ghost use Rattle.scripts.specs.ValidSteps.{are_asked, is_ack, is_if_some, is_time};
 ghost use Rattle.script_form.specs.Misfits.{Reads, at_place, within};
 ghost use Rattle.script_form.specs.Parts.{each, optional};
 ghost use Rattle.script_form.specs.Steps.{IsNewAsked, ack_of, asked_of, next_asked, some_ack_of, some_time_of};

@@ -2,7 +2,7 @@ ghost use Rattle.std.specs.Prelude.{◌≡◌, ◌≤◌, ◌<◌, ◌&&◌, [],
 ghost use Rattle.std.specs.List.{list_all, list_any};
 ghost use Rattle.serde_json.specs.View.{view};
 ghost use Rattle.scripts.specs.Scripts.{is_close};
-ghost use Rattle.scripts.specs.Steps.{are_steps, is_client, is_step};
+ghost use Rattle.scripts.specs.ValidSteps.{are_steps, is_client, is_step};
 ghost use Rattle.script_form.specs.Clients.{IsClosedOnce, clients_of, closes, next_client, next_step, step_unless_closed, steps_of};
 ghost use Rattle.script_form.specs.Misfits.{Reads, at_place, within};
 ghost use Rattle.script_form.specs.Parts.{each};

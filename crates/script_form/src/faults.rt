@@ -2,7 +2,7 @@ ghost use Rattle.std.specs.Prelude.{◌≡◌, ◌≤◌, [], IfOk, IsTrue, fals
 ghost use Rattle.std.specs.List.{list_all, list_any};
 ghost use Rattle.serde_json.specs.View.{view};
 ghost use Rattle.scripts.specs.Scripts.{are_faults_distinct, is_fault, is_master};
-ghost use Rattle.scripts.specs.Steps.{is_node_among};
+ghost use Rattle.scripts.specs.ValidSteps.{is_node_among};
 ghost use Rattle.script_form.specs.Faults.{IsNewFault, fault_named, fault_of, faults_of, follower_of, is_same_place, next_fault};
 ghost use Rattle.script_form.specs.Misfits.{Reads, at_place, within};
 ghost use Rattle.script_form.specs.Parts.{each, word_of};

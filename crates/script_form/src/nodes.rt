@@ -2,7 +2,7 @@ ghost use Rattle.std.specs.Prelude.{◌≡◌, ◌≤◌, [], IfOk, IsTrue, leng
 ghost use Rattle.std.specs.Option.{option_copied};
 ghost use Rattle.serde_json.specs.View.{view};
 ghost use Rattle.scripts.specs.Names.{is_name};
-ghost use Rattle.scripts.specs.Steps.{is_node_among, is_node_so};
+ghost use Rattle.scripts.specs.ValidSteps.{is_node_among, is_node_so};
 ghost use Rattle.script_form.specs.Misfits.{Reads, at_place, within};
 ghost use Rattle.script_form.specs.Naming.{AreNamed, IsNewTo};
 ghost use Rattle.script_form.specs.Parts.{each};

@@ -2,7 +2,7 @@ ghost use Rattle.std.specs.Prelude.{◌≡◌, ◌≤◌, IfOk, IsTrue, bytes_eq
 ghost use Rattle.std.specs.List.{list_any};
 ghost use Rattle.serde_json.specs.View.{view, members_view};
 ghost use Rattle.scripts.specs.Names.{is_name};
-ghost use Rattle.scripts.specs.Steps.{is_time, is_positive_time};
+ghost use Rattle.scripts.specs.ValidSteps.{is_time, is_positive_time};
 ghost use Rattle.script_form.specs.Misfits.{Reads};
 ghost use Rattle.script_form.specs.Parts.{are_known, data_of, flag_of, list_of, member_of, name_of, object_of, optional, required, short_list, text_of, time_of, positive_of, whole_of};
 ghost use Rattle.script_form.specs.Parts as spec;

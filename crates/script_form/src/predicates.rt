@@ -1,6 +1,6 @@
 ghost use Rattle.std.specs.Prelude.{◌≡◌, ◌≤◌, ◌+◌, [], IfOk, IsTrue, length, map, option_map};
 ghost use Rattle.serde_json.specs.View.{view, members_view};
-ghost use Rattle.scripts.specs.Steps.{deepest, depth_of, is_pred};
+ghost use Rattle.scripts.specs.ValidSteps.{deepest, depth_of, is_pred};
 ghost use Rattle.std.specs.List.{list_all};
 ghost use Rattle.script_form.specs.Misfits.{Reads, at_place, within};
 ghost use Rattle.script_form.specs.Parts.{is_known};

@@ -3,7 +3,7 @@ ghost use Rattle.std.specs.List.{list_all};
 ghost use Rattle.std.specs.Option.{option_copied};
 ghost use Rattle.serde_json.specs.View.{view};
 ghost use Rattle.scripts.specs.declared.steps.Goal.TheVariants.{Watch};
-ghost use Rattle.scripts.specs.Steps.{is_goal, is_pred, is_step, is_positive_time};
+ghost use Rattle.scripts.specs.ValidSteps.{is_goal, is_pred, is_step, is_positive_time};
 ghost use Rattle.script_form.specs.Misfits.{Reads};
 ghost use Rattle.script_form.specs.Parts.{optional, positive_of, required, word_of};
 ghost use Rattle.script_form.specs.Predicates.{pred_of, thens_of};

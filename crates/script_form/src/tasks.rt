@@ -1,7 +1,7 @@
 ghost use Rattle.std.specs.Prelude.{◌≡◌, [], IfOk, IsTrue, Ok};
 ghost use Rattle.serde_json.specs.View.{view};
 ghost use Rattle.executors.specs.declared.task_forms.TaskForm.TheVariants as form;
-ghost use Rattle.scripts.specs.Steps.{is_task_of};
+ghost use Rattle.scripts.specs.ValidSteps.{is_task_of};
 ghost use Rattle.script_form.specs.Misfits.{Reads};
 ghost use Rattle.script_form.specs.Parts.{required, word_of};
 ghost use Rattle.script_form.specs.Tasks.{addition_named, alias_task_of, cluster_setting_of, creation_of, deletion_of, index_setting_of, joining_named, node_task, node_task_of, opening_of, reelection_of, setting_value_of, task_of};

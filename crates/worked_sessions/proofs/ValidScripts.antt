@@ -7,7 +7,7 @@ use Rattle.meta_state.specs.declared.predicates.Pred.{fold-roll-Pred}
 use Rattle.meta_state.specs.declared.predicates.Pred.TheOpen.{Pred-F}
 use Rattle.meta_state.specs.declared.predicates.Pred.TheVariants.{Index, Setting, rolls-Index, rolls-Setting}
 use Rattle.scripts.specs.Scripts.{IsScript}
-use Rattle.scripts.specs.Steps.{depth_of, depth_step, is_client, is_pred}
+use Rattle.scripts.specs.ValidSteps.{depth_of, depth_step, is_client, is_pred}
 use Rattle.worked_sessions.specs.Awaiting.{awaiting_script}
 use Rattle.worked_sessions.specs.Mixed.{mixed_script}
 use Rattle.worked_sessions.specs.Stopped.{stopped_script}

@@ -1,7 +1,7 @@
 use Rattle.std.proofs.Common.{◌≡◌, drop, []}
 use Rattle.std.specs.Prelude.{map, IsTrue}
 use Rattle.serde_json.specs.View.{view}
-use Rattle.scripts.specs.Steps.{are_asked}
+use Rattle.scripts.specs.ValidSteps.{are_asked}
 use Rattle.script_form.specs.Parts.{each}
 use Rattle.script_form.specs.Steps.{next_asked}
 use Rattle.script_form.proofs.acks.each_asked.Given as goal

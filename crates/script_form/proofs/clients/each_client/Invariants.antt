@@ -2,7 +2,7 @@ use Rattle.std.proofs.Common.{◌≡◌, ◌≤◌, drop, length, []}
 use Rattle.std.specs.Prelude.{map, IsTrue}
 use Rattle.std.specs.List.{list_all}
 use Rattle.serde_json.specs.View.{view}
-use Rattle.scripts.specs.Steps.{is_client}
+use Rattle.scripts.specs.ValidSteps.{is_client}
 use Rattle.script_form.specs.Clients.{closes, do_close, next_client}
 use Rattle.script_form.specs.Parts.{each}
 use Rattle.script_form.proofs.clients.each_client.Given as goal

@@ -3,7 +3,7 @@ use Rattle.std.specs.Prelude.{map, IsTrue, ◌||◌}
 use Rattle.std.specs.List.{list_any}
 use Rattle.serde_json.specs.View.{view}
 use Rattle.scripts.specs.Scripts.{is_close}
-use Rattle.scripts.specs.Steps.{are_steps}
+use Rattle.scripts.specs.ValidSteps.{are_steps}
 use Rattle.script_form.specs.Clients.{IsClosedOnce, next_step}
 use Rattle.script_form.specs.Parts.{each}
 use Rattle.script_form.proofs.clients.each_step.Given as goal
