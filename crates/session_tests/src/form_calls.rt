@@ -31,11 +31,12 @@ enum What {
     // A read more, which found the words.
     Read,
 
-    // A node more: of this name, handed these versions, with these versions in its apply lines, or with one entry in
-    // its views.
+    // A node more: of this name, handed these versions, with these versions in its apply lines, with the words in the
+    // list of this place in a change, or with one entry in its views.
     Node,
     Handed,
     Applied,
+    Listed,
     Alias,
     Id,
     Value,
@@ -104,7 +105,7 @@ fn hand(node: &mut NodeRec, versions: &[u32]) -> Result<(), OutOfMemory> {
     Ok(())
 }
 
-// An apply line to a version, which tells of a failure where another comes before it and one after it.
+// An apply line to a version, of which the one at place 1 tells of a failure.
 fn apply_to(alloc: Global, place: usize, version: u32) -> Apply {
     if place == 1 {
         failed(1, u64::from(version))
@@ -120,6 +121,31 @@ fn apply(alloc: Global, node: &mut NodeRec, versions: &[u32]) -> Result<(), OutO
     Ok(())
 }
 
+// The list of a change at a place from 0.
+fn list_at(change: &mut Change, place: u32) -> &mut Items<Text> {
+    match place {
+        0 => &mut change.created,
+        1 => &mut change.deleted,
+        2 => &mut change.changed,
+        3 => &mut change.joined,
+        4 => &mut change.left,
+        _ => &mut change.settings,
+    }
+}
+
+fn put_change(
+    alloc: Global,
+    node: &mut NodeRec,
+    place: u32,
+    words: &[&str],
+) -> Result<(), OutOfMemory> {
+    let mut change = no_change(alloc);
+    for word in words {
+        list_at(&mut change, place).push(Text::from_str(alloc, word)?)?;
+    }
+    node.applies.push(applied(1, 3, [3, 3, 3, 3], change))
+}
+
 fn change_node(
     alloc: Global,
     node: &mut NodeRec,
@@ -131,6 +157,7 @@ fn change_node(
     match what {
         What::Handed => hand(node, numbers),
         What::Applied => apply(alloc, node, numbers),
+        What::Listed => put_change(alloc, node, number(numbers, 0), words),
         What::Alias => put_alias(alloc, &mut node.view, name, words),
         What::Id => put_id(alloc, &mut node.view, name, 1),
         What::Value => put_value(alloc, &mut node.view.settings, name, "v"),
@@ -223,7 +250,7 @@ fn judged(
 ) -> Result<bool, OutOfMemory> {
     let mut made = good(alloc)?;
     change(alloc, &mut made, what, name, words, numbers)?;
-    Ok(is_good_form(&made))
+    is_good_form(alloc, &made)
 }
 
 type Row = (
@@ -292,12 +319,13 @@ const ROWS: [Row; 83] = [
     (What::Handed, "", &[], &[2, 2], false),
     (What::Handed, "", &[], &[2, 4, 3], false),
     (What::Handed, "", &[], &[3, 2, 4], false),
-    // the versions that it applied rise from the first, 2
+    // the versions of its apply lines rise, of which the second failed
     (What::Applied, "", &[], &[3, 4, 5], true),
+    (What::Applied, "", &[], &[3, 3, 4], false),
+    (What::Applied, "", &[], &[3, 5, 4], false),
+    // those that it applied rise from the first, 2
     (What::Applied, "", &[], &[2, 3, 4], false),
     (What::Applied, "", &[], &[1, 3, 4], false),
-    (What::Applied, "", &[], &[3, 4, 3], false),
-    (What::Applied, "", &[], &[4, 5, 3], false),
     // views have names of their kinds
     (What::Alias, "a+b", &["a", "b"], &[], true),
     (What::Alias, "All", &["a"], &[], false),
@@ -338,36 +366,12 @@ const ROWS: [Row; 83] = [
 #[test]
 fn a_session_is_of_good_form_until_one_thing_is_changed(rt: HostRuntime) -> Result<(), Fail> {
     let alloc = rt.alloc();
-    assert!(rt; is_good_form(&good(alloc)?));
+    assert!(rt; is_good_form(alloc, &good(alloc)?)?);
     for (place, (what, name, words, numbers, is_good)) in ROWS.iter().enumerate() {
         let found = judged(alloc, *what, name, words, numbers)?;
         assert!(rt; found == *is_good, "row {place} at {name}");
     }
     Ok(())
-}
-
-// A change with these words in its list at a place from 0, the others being empty.
-fn change_at(alloc: Global, place: u32, words: &[&str]) -> Result<Change, OutOfMemory> {
-    let mut change = no_change(alloc);
-    let list = names(alloc, words)?;
-    match place {
-        0 => change.created = list,
-        1 => change.deleted = list,
-        2 => change.changed = list,
-        3 => change.joined = list,
-        4 => change.left = list,
-        _ => change.settings = list,
-    }
-    Ok(change)
-}
-
-fn is_listed(alloc: Global, place: u32, words: &[&str]) -> Result<bool, OutOfMemory> {
-    let mut node = idle(alloc, "n1", 1)?;
-    let change = change_at(alloc, place, words)?;
-    node.applies.push(applied(1, 2, [2, 2, 2, 2], change))?;
-    let mut made = good(alloc)?;
-    made.nodes.push(node)?;
-    Ok(is_good_form(&made))
 }
 
 // Words of a list of a change, and in how many of the six lists they may stand, from the first on: of indices created,
@@ -383,13 +387,14 @@ const LISTS: [(&'static [&'static str], u32); 6] = [
 
 #[test]
 fn each_list_of_a_change_has_names_of_its_kind_in_byte_order(rt: HostRuntime) -> Result<(), Fail> {
+    let alloc = rt.alloc();
     for place in 0..6u32 {
         for (words, lists) in LISTS {
-            let found = is_listed(rt.alloc(), place, words)?;
+            let found = judged(alloc, What::Listed, "", words, &[place])?;
             assert!(rt; found == (place < lists), "list {place}");
         }
         // a key may have a dot, and so may an index
-        let found = is_listed(rt.alloc(), place, &["a.b"])?;
+        let found = judged(alloc, What::Listed, "", &["a.b"], &[place])?;
         assert!(rt; found == (place < 3 || place == 5), "list {place}");
     }
     Ok(())

@@ -302,13 +302,14 @@ fn fill_view(alloc: Global, view: &mut View) -> Result<(), OutOfMemory> {
 
 // A node that began with a version, and was handed nothing.
 pub(crate) fn idle(alloc: Global, name: &str, first: u64) -> Result<NodeRec, OutOfMemory> {
+    let node = Text::from_str(alloc, name)?;
     let view = View {
         aliases: Map::new(alloc),
         indices: Map::new(alloc),
         settings: Map::new(alloc),
     };
     Ok(NodeRec {
-        node: Text::from_str(alloc, name)?,
+        node,
         handed: Items::new(alloc),
         first,
         applies: Items::new(alloc),
@@ -377,6 +378,7 @@ fn last(alloc: Global) -> Result<ClusterState, OutOfMemory> {
 }
 
 fn empty(alloc: Global) -> Result<Session, OutOfMemory> {
+    let last = last(alloc)?;
     Ok(Session {
         batches: Items::new(alloc),
         replies: Items::new(alloc),
@@ -384,7 +386,7 @@ fn empty(alloc: Global) -> Result<Session, OutOfMemory> {
         watches: Items::new(alloc),
         reads: Items::new(alloc),
         nodes: Items::new(alloc),
-        last: last(alloc)?,
+        last,
     })
 }
 
