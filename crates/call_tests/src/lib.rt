@@ -6,4 +6,8 @@
 #[cfg(test)]
 mod edge_calls;
 #[cfg(test)]
+mod executor_calls;
+#[cfg(test)]
 mod map_calls;
+#[cfg(test)]
+mod state_calls;
