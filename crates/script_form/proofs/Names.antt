@@ -11,8 +11,7 @@ use Rattle.scripts.specs.Names.{are_distinct}
 use Rattle.scripts.specs.Scripts.{has_master}
 use Rattle.scripts.specs.ValidSteps.{are_asked, is_node_among, is_node_so}
 use Rattle.script_form.specs.Naming.{AreNamed, IsNewTo}
-use Rattle.script_form.specs.Nodes.{find_node, is_fit_first, is_led}
-use Rattle.script_form.specs.Steps.{IsNewAsked}
+use Rattle.script_form.specs.Nodes.{AreLed, find_node, is_fit_first, is_led, node_name}
 
 bytes_eq_symm : (a b : List ℕ) → bytes_eq a b ≡ bytes_eq b a
 bytes_eq_symm a b = nat_list_eq_equiv.symm a b
@@ -40,9 +39,12 @@ names_push name before a all new = record {
   distinct = rw (map_push name before a) (are_distinct_push (map name before) (name a) all.distinct (sym (list_any_names name before (name a)) ∙ new.apart));
 }
 
-pub is_led_push : (before : List ScriptNode) (node : ScriptNode) → is_led before ≡ true → is_fit_first before node ≡ true → is_led (before ++ node ∷ []) ≡ true
+is_led_push : (before : List ScriptNode) (node : ScriptNode) → is_led before ≡ true → is_fit_first before node ≡ true → is_led (before ++ node ∷ []) ≡ true
 is_led_push [] node led fit = fit
 is_led_push (first ∷ before) node led fit = led
+
+pub led_push : (before : List ScriptNode) (node : ScriptNode) → AreLed before → IsNewTo node_name before node → is_fit_first before node ≡ true → AreLed (before ++ node ∷ [])
+led_push before node all new fit = record { names = names_push node_name before node all.names new; led = is_led_push before node all.led fit }
 
 pub led_nodes : (nodes : List ScriptNode) → 0 < length nodes → is_led nodes ≡ true → has_master nodes ≡ true
 led_nodes [] some led = absurd (omega (arith, some))
@@ -63,5 +65,5 @@ pub is_node_so_found : (nodes : List ScriptNode) (name : List ℕ) (node : Scrip
 is_node_so_found [] name node found = absurd cc
 is_node_so_found (first ∷ nodes) name node found = grind (arith, common_steps, is_node_so_found nodes name node, bytes_eq_refl, beq_refl)
 
-pub are_asked_push : (nodes : List ScriptNode) (before : List (List ℕ)) (name : List ℕ) → are_asked nodes before ≡ true → IsNewAsked nodes before name → are_asked nodes (before ++ name ∷ []) ≡ true
-are_asked_push nodes before name asked new = grind (arith, common_steps, list_all-append, are_distinct_push before name, new.known, new.apart)
+pub are_asked_push : (nodes : List ScriptNode) (before : List (List ℕ)) (name : List ℕ) → are_asked nodes before ≡ true → is_node_among nodes name ≡ true → list_any (bytes_eq name) before ≡ false → are_asked nodes (before ++ name ∷ []) ≡ true
+are_asked_push nodes before name asked known apart = grind (arith, common_steps, list_all-append, are_distinct_push before name)

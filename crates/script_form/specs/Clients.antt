@@ -1,12 +1,14 @@
 -- The clients of a script: at most 32, each with at most 4,096 steps. One step of a script may close. The limits are
 -- this project's own.
-use Rattle.std.specs.Prelude.{ℕ, ◌+◌, ◌≤◌, Bool, ◌&&◌, ◌||◌, List, [], Result, Ok, count_by, flat_map, if◌then◌else◌}
-use Rattle.std.specs.List.{list_any}
+use Rattle.std.specs.Prelude.{ℕ, ◌+◌, ◌≤◌, Bool, true, false, ◌&&◌, ◌||◌, List, [], Result, Ok, IsTrue, count_by, flat_map, if◌then◌else◌, refl}
+use Rattle.std.specs.List.{list_all, list_any}
+use Rattle.std.proofs.lemmas.Bool.{leb-true}
 use Rattle.serde_json.specs.Data.{Data}
 use Rattle.scripts.specs.declared.queues.QueueSpec.{QueueSpec}
 use Rattle.scripts.specs.declared.whole_script.ScriptNode.{ScriptNode}
 use Rattle.scripts.specs.declared.steps.Step.{Step}
 use Rattle.scripts.specs.Scripts.{is_close}
+use Rattle.scripts.specs.ValidSteps.{are_steps, is_client}
 use Rattle.script_form.specs.declared.limits.LimitName.TheVariants.{Steps, Clients}
 use Rattle.script_form.specs.declared.misfits.Misfit.{Misfit}
 use Rattle.script_form.specs.declared.rules.Rule.TheVariants.{Close}
@@ -16,14 +18,11 @@ use Rattle.script_form.specs.Steps.{step_of}
 
 -- a step may close unless an earlier one does
 abbrev pub fit_step : Bool → Step → Result Step Misfit
-fit_step closed step = if closed && is_close step then bad Close else Ok step
-
-abbrev pub step_unless_closed : List ScriptNode → List QueueSpec → Bool → List Step → Data → Result Step Misfit
-step_unless_closed nodes queues closed before d = step_of nodes queues before d >>= fit_step closed
+fit_step closed step = if is_close step && closed then bad Close else Ok step
 
 -- the next step of a client, where `closed` says that an earlier client closes
 abbrev pub next_step : List ScriptNode → List QueueSpec → Bool → List Step → Data → Result Step Misfit
-next_step nodes queues closed before d = step_unless_closed nodes queues (closed || list_any is_close before) before d
+next_step nodes queues closed before d = step_of nodes queues before d >>= fit_step (closed || list_any is_close before)
 
 abbrev pub steps_of : List ScriptNode → List QueueSpec → Bool → Data → Result (List Step) Misfit
 steps_of nodes queues closed d = short_list 4096 Steps d >>= each (next_step nodes queues closed) []
@@ -46,6 +45,16 @@ closes clients = count_by is_close (flat_map (λ steps. steps) clients)
 abbrev pub one_if_so : Bool → ℕ
 one_if_so closed = if closed then 1 else 0
 
--- with the earlier ones, of which `closed` says whether one closes, no more than one step closes
-abbrev pub IsClosedOnce : Bool → List Step → Type 0
-IsClosedOnce closed steps = one_if_so closed + count_by is_close steps ≤ 1
+-- the steps of a client: with the earlier ones, of which `closed` says whether one closes, no more than one closes
+pub record AreSteps (nodes : List ScriptNode) (queues : List QueueSpec) (closed : Bool) (steps : List Step) : Type 0 where
+  pub valid : IsTrue (are_steps nodes queues [] steps)
+  pub once : one_if_so closed + count_by is_close steps ≤ 1
+
+pub record AreClients (nodes : List ScriptNode) (queues : List QueueSpec) (clients : List (List Step)) : Type 0 where
+  pub valid : IsTrue (list_all (is_client nodes queues) clients)
+  pub once : closes clients ≤ 1
+
+-- before its first step a client has no more closing steps than the earlier ones
+pub starts_once : (closed : Bool) → one_if_so closed + 0 ≤ 1
+starts_once true = leb-true 1 1 refl
+starts_once false = leb-true 0 1 refl

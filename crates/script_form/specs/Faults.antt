@@ -1,25 +1,26 @@
 -- The faults of a script: at most 1,024, none on the master, and one at most at each publication to a node. The rules
 -- are this project's own.
-use Rattle.std.specs.Prelude.{◌≡◌, ℕ, ◌==◌, Bool, false, ◌&&◌, List, [], ◌∷◌, Some, None, Option, Result, Ok, codes, bytes_eq, if◌then◌else◌, IsTrue}
-use Rattle.std.specs.List.{list_any}
+use Rattle.std.specs.Prelude.{ℕ, ◌==◌, Bool, ◌&&◌, List, [], ◌∷◌, Option, Result, Ok, codes, bytes_eq, if◌then◌else◌, IsTrue}
+use Rattle.std.specs.List.{list_all, list_any}
 use Rattle.serde_json.specs.Data.{Data}
 use Rattle.scripts.specs.declared.faults.Fault.{Fault}
 use Rattle.scripts.specs.declared.faults.FaultKind.{FaultKind}
 use Rattle.scripts.specs.declared.faults.FaultKind.TheVariants as fault_kind
 use Rattle.scripts.specs.declared.whole_script.ScriptNode.{ScriptNode}
-use Rattle.scripts.specs.Scripts.{is_fault, is_master}
+use Rattle.scripts.specs.Scripts.{are_faults_distinct, is_fault, is_master}
 use Rattle.script_form.specs.declared.limits.LimitName.TheVariants.{Faults}
 use Rattle.script_form.specs.declared.misfits.Misfit.{Misfit}
 use Rattle.script_form.specs.declared.rules.Rule.TheVariants.{Master, Twice}
 use Rattle.script_form.specs.Misfits.{◌>>=◌, bad}
 use Rattle.script_form.specs.Nodes.{node_named}
-use Rattle.script_form.specs.Parts.{check_members, required, short_list, each, positive_of, word_of}
+use Rattle.script_form.specs.Parts.{check_members, required, short_list, each, positive_of, word_of, meaning_in}
 
 unfoldable pub fault_named : List ℕ → Option FaultKind
-fault_named word =
-    if bytes_eq word (codes "unreachable") then Some fault_kind.Unreachable else
-    (if bytes_eq word (codes "lost_commit") then Some fault_kind.LostCommit else
-    (if bytes_eq word (codes "apply") then Some fault_kind.Apply else None))
+fault_named = meaning_in (
+    (codes "unreachable", fault_kind.Unreachable) ∷
+    (codes "lost_commit", fault_kind.LostCommit) ∷
+    (codes "apply", fault_kind.Apply) ∷
+    [])
 
 -- a node other than the master
 abbrev pub fit_follower : List ScriptNode → ScriptNode → Result (List ℕ) Misfit
@@ -51,7 +52,6 @@ faults_of nodes d = short_list 1024 Faults d >>= each (next_fault nodes) []
 
 -- ---- what is so of the faults that are read
 
--- a fault of a node other than the master, at a place where no fault before it is
-pub record IsNewFault (nodes : List ScriptNode) (before : List Fault) (fault : Fault) : Type 0 where
-  pub valid : IsTrue (is_fault nodes fault)
-  pub apart : list_any (is_same_place fault) before ≡ false
+pub record AreFaults (nodes : List ScriptNode) (faults : List Fault) : Type 0 where
+  pub valid : IsTrue (list_all (is_fault nodes) faults)
+  pub distinct : IsTrue (are_faults_distinct faults)

@@ -1,10 +1,10 @@
 -- The nodes of a script: 1 to 30, each of a name of its own. The first one is the master: it can vote, and is in the
 -- first state. The rules are this project's own.
 use Rattle.std.specs.Prelude.{ℕ, ◌≤◌, Bool, true, ◌&&◌, List, [], ◌∷◌, Some, None, Option, Result, Ok, codes, bytes_eq, length, if◌then◌else◌, IsTrue}
-use Rattle.std.specs.List.{list_any}
 use Rattle.serde_json.specs.Data.{Data}
 use Rattle.scripts.specs.declared.whole_script.ScriptNode.{ScriptNode}
 use Rattle.scripts.specs.Scripts.{has_master}
+use Rattle.scripts.specs.ValidSteps.{is_node_among}
 use Rattle.script_form.specs.Naming.{AreNamed}
 use Rattle.script_form.specs.declared.limits.LimitName.TheVariants.{Nodes}
 use Rattle.script_form.specs.declared.misfits.Misfit.{Misfit}
@@ -21,9 +21,6 @@ node_of d =
     optional (codes "member") true flag_of d >>= λ is_member.
     Ok (record { name = name; eligible = eligible; member = is_member })
 
-abbrev pub is_node_name : List ScriptNode → List ℕ → Bool
-is_node_name nodes name = list_any (λ n. bytes_eq name n.name) nodes
-
 -- whether a node may be the master
 abbrev pub may_lead : ScriptNode → Bool
 may_lead node = node.eligible && node.member
@@ -31,7 +28,7 @@ may_lead node = node.eligible && node.member
 -- what may be first or stand after other nodes
 abbrev pub fit_node : List ScriptNode → ScriptNode → Result ScriptNode Misfit
 fit_node [] node = if may_lead node then Ok node else bad Master
-fit_node (first ∷ before) node = if is_node_name (first ∷ before) node.name then within (at_member (codes "name")) (bad Twice) else Ok node
+fit_node (first ∷ before) node = if is_node_among (first ∷ before) node.name then within (at_member (codes "name")) (bad Twice) else Ok node
 
 abbrev pub next_node : List ScriptNode → Data → Result ScriptNode Misfit
 next_node before d = node_of d >>= fit_node before
@@ -68,6 +65,12 @@ abbrev pub is_fit_first : List ScriptNode → ScriptNode → Bool
 is_fit_first [] node = may_lead node
 is_fit_first (_ ∷ _) node = true
 
+-- the nodes read so far
+pub record AreLed (nodes : List ScriptNode) : Type 0 where
+  pub names : AreNamed node_name nodes
+  pub led : IsTrue (is_led nodes)
+
+-- all nodes of a script
 pub record AreNodes (nodes : List ScriptNode) : Type 0 where
   pub limit : length nodes ≤ 30
   pub names : AreNamed node_name nodes

@@ -115,6 +115,11 @@ positive_of d = whole_of d >>= if_so Range is_positive_time
 abbrev pub name_of : Data → Result (List ℕ) Misfit
 name_of d = text_of d >>= if_so Name is_name
 
+-- the meaning of a word in a table of words
+abbrev pub meaning_in : {A : Type 0} → List (List ℕ × A) → List ℕ → Option A
+meaning_in [] word = None
+meaning_in (row ∷ rows) word = if bytes_eq word row.0 then Some row.1 else meaning_in rows word
+
 -- one of some words
 abbrev pub word_of : {A : Type 0} → (List ℕ → Option A) → Data → Result A Misfit
 word_of meaning d = text_of d >>= λ text. some_or Value (meaning text)

@@ -12,30 +12,32 @@ use Rattle.script_form.specs.declared.limits.LimitName.TheVariants.{Queues}
 use Rattle.script_form.specs.declared.misfits.Misfit.{Misfit}
 use Rattle.script_form.specs.declared.rules.Rule.TheVariants.{Twice, Reference}
 use Rattle.script_form.specs.Misfits.{◌>>=◌, bad, some_or, at_member, within}
-use Rattle.script_form.specs.Parts.{check_members, required, optional, short_list, each, text_of, name_of, word_of}
+use Rattle.script_form.specs.Parts.{check_members, required, optional, short_list, each, text_of, name_of, word_of, meaning_in}
 
 -- the executor of this name
 unfoldable pub kind_named : List ℕ → Option Kind
-kind_named word =
-    if bytes_eq word (codes "create_index") then Some kind.CreateIndex else
-    (if bytes_eq word (codes "delete_index") then Some kind.DeleteIndex else
-    (if bytes_eq word (codes "index_settings") then Some kind.IndexSettings else
-    (if bytes_eq word (codes "open_close") then Some kind.OpenClose else
-    (if bytes_eq word (codes "aliases") then Some kind.Aliases else
-    (if bytes_eq word (codes "aliases_atomic") then Some kind.AliasesAtomic else
-    (if bytes_eq word (codes "cluster_settings") then Some kind.ClusterSettings else
-    (if bytes_eq word (codes "nodes") then Some kind.Nodes else
-    (if bytes_eq word (codes "reelect") then Some kind.Reelect else None))))))))
+kind_named = meaning_in (
+    (codes "create_index", kind.CreateIndex) ∷
+    (codes "delete_index", kind.DeleteIndex) ∷
+    (codes "index_settings", kind.IndexSettings) ∷
+    (codes "open_close", kind.OpenClose) ∷
+    (codes "aliases", kind.Aliases) ∷
+    (codes "aliases_atomic", kind.AliasesAtomic) ∷
+    (codes "cluster_settings", kind.ClusterSettings) ∷
+    (codes "nodes", kind.Nodes) ∷
+    (codes "reelect", kind.Reelect) ∷
+    [])
 
 -- the priority of this name
 unfoldable pub priority_named : List ℕ → Option Priority
-priority_named word =
-    if bytes_eq word (codes "IMMEDIATE") then Some priority.Immediate else
-    (if bytes_eq word (codes "URGENT") then Some priority.Urgent else
-    (if bytes_eq word (codes "HIGH") then Some priority.High else
-    (if bytes_eq word (codes "NORMAL") then Some priority.Normal else
-    (if bytes_eq word (codes "LOW") then Some priority.Low else
-    (if bytes_eq word (codes "LANGUID") then Some priority.Languid else None)))))
+priority_named = meaning_in (
+    (codes "IMMEDIATE", priority.Immediate) ∷
+    (codes "URGENT", priority.Urgent) ∷
+    (codes "HIGH", priority.High) ∷
+    (codes "NORMAL", priority.Normal) ∷
+    (codes "LOW", priority.Low) ∷
+    (codes "LANGUID", priority.Languid) ∷
+    [])
 
 -- a queue: `name`, `executor` and `priority`, of which the last may be left out
 unfoldable pub queue_of : Data → Result QueueSpec Misfit

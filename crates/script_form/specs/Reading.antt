@@ -5,16 +5,15 @@ use Rattle.serde_json.specs.Data.{Data}
 use Rattle.scripts.specs.declared.whole_script.Script.{Script}
 use Rattle.scripts.specs.Built.{is_built}
 use Rattle.scripts.specs.Names.{is_name}
-use Rattle.scripts.specs.Scripts.{alias_reads, are_faults_distinct, is_fault, is_turn, submits}
-use Rattle.scripts.specs.ValidSteps.{is_client}
+use Rattle.scripts.specs.Scripts.{alias_reads, is_turn, submits}
 use Rattle.script_form.specs.declared.limits.LimitName.TheVariants.{Work}
 use Rattle.script_form.specs.declared.misfits.Misfit.{Misfit}
 use Rattle.script_form.specs.declared.misfits.Misfit.TheVariants as misfit
 use Rattle.script_form.specs.declared.refusals.ScriptRefusal.{ScriptRefusal}
 use Rattle.script_form.specs.declared.refusals.ScriptRefusal.TheVariants.{NotJson, BadShape, Limit, OutOfMemory}
 use Rattle.script_form.specs.declared.rules.Rule.TheVariants.{Version, NotBuilt}
-use Rattle.script_form.specs.Clients.{clients_of, closes}
-use Rattle.script_form.specs.Faults.{faults_of}
+use Rattle.script_form.specs.Clients.{AreClients, clients_of}
+use Rattle.script_form.specs.Faults.{AreFaults, faults_of}
 use Rattle.script_form.specs.Misfits.{◌>>=◌, if_so, over}
 use Rattle.script_form.specs.Naming.{AreNamed}
 use Rattle.script_form.specs.Nodes.{AreNodes, nodes_of}
@@ -101,10 +100,8 @@ pub record AreParts (script : Script) : Type 0 where
   pub queues : AreNamed queue_name script.queues
   pub queues_limit : length script.queues ≤ 64
   pub clients_limit : length script.clients ≤ 32
-  pub clients : IsTrue (list_all (is_client script.nodes script.queues) script.clients)
-  pub one_close : closes script.clients ≤ 1
+  pub clients : AreClients script.nodes script.queues script.clients
   pub faults_limit : length script.faults ≤ 1024
-  pub faults : IsTrue (list_all (is_fault script.nodes) script.faults)
-  pub faults_distinct : IsTrue (are_faults_distinct script.faults)
+  pub faults : AreFaults script.nodes script.faults
   pub schedule_limit : length script.schedule ≤ 65536
   pub schedule : IsTrue (list_all (is_turn script.nodes (length script.clients)) script.schedule)

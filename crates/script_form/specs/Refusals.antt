@@ -1,4 +1,4 @@
--- What the program prints of a script that was not read. The words are this project's own.
+-- What the program prints of a script that was not read, and the refusals' numbers. They are this project's own.
 use Rattle.std.specs.Prelude.{ℕ, List, ◌++◌, codes}
 use Rattle.script_form.specs.declared.limits.LimitName.{LimitName}
 use Rattle.script_form.specs.declared.limits.LimitName.TheVariants.{Depth, Steps, Nodes, Queues, Clients, Faults, Schedule, Then, Work}
@@ -40,3 +40,9 @@ refusal_text NotJson = codes "not_json"
 refusal_text (BadShape path rule) = codes "bad_shape " ++ (path ++ (codes " " ++ rule_word rule))
 refusal_text (Limit name) = codes "limit " ++ limit_word name
 refusal_text OutOfMemory = codes "out of memory"
+
+abbrev pub script_refusal_number : ScriptRefusal → ℕ
+script_refusal_number NotJson = 1
+script_refusal_number (BadShape path rule) = 2
+script_refusal_number (Limit name) = 3
+script_refusal_number OutOfMemory = 4

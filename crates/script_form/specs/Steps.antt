@@ -1,6 +1,6 @@
 -- The steps of a client, by what they do. A step may refer to the steps of its client before it. The form is this
 -- project's own.
-use Rattle.std.specs.Prelude.{◌≡◌, ℕ, ◌==◌, false, List, [], ◌∷◌, Some, None, Option, Result, Ok, codes, bytes_eq, length, nat_lt, slice_get, if◌then◌else◌, IsTrue}
+use Rattle.std.specs.Prelude.{ℕ, ◌==◌, List, [], ◌∷◌, Some, None, Option, Result, Ok, codes, bytes_eq, length, nat_lt, slice_get, if◌then◌else◌}
 use Rattle.std.specs.List.{list_any}
 use Rattle.serde_json.specs.Data.{Data, Items}
 use Rattle.serde_json.specs.Find.{get, as_str, as_array}
@@ -14,12 +14,12 @@ use Rattle.scripts.specs.declared.steps.Goal.TheVariants as goal
 use Rattle.scripts.specs.declared.steps.Step.{Step}
 use Rattle.scripts.specs.declared.steps.Step.TheVariants as step
 use Rattle.executors.specs.Kinds.{form_of}
-use Rattle.scripts.specs.ValidSteps.{is_goal, is_node_among}
+use Rattle.scripts.specs.ValidSteps.{is_goal}
 use Rattle.script_form.specs.declared.misfits.Misfit.{Misfit}
 use Rattle.script_form.specs.declared.rules.Rule.TheVariants.{WrongType, Missing, Value, Reference, Twice}
 use Rattle.script_form.specs.Misfits.{◌>>=◌, bad, if_so, at_member, within}
 use Rattle.script_form.specs.Nodes.{node_named}
-use Rattle.script_form.specs.Parts.{object_of, check_members, required, optional, items_list, each, text_of, whole_of, time_of, positive_of, word_of}
+use Rattle.script_form.specs.Parts.{object_of, check_members, required, optional, items_list, each, text_of, whole_of, time_of, positive_of, word_of, meaning_in}
 use Rattle.script_form.specs.Predicates.{pred_of, thens_of}
 use Rattle.script_form.specs.Queues.{queue_named}
 use Rattle.script_form.specs.Tasks.{task_of}
@@ -76,10 +76,11 @@ abbrev pub earlier_of : List Step → Data → Result ℕ Misfit
 earlier_of before d = whole_of d >>= if_so Reference (λ number. nat_lt number (length before))
 
 unfoldable pub goal_named : List ℕ → Option Goal
-goal_named word =
-    if bytes_eq word (codes "task") then Some goal.Task else
-    (if bytes_eq word (codes "ack") then Some goal.Ack else
-    (if bytes_eq word (codes "watch") then Some goal.Watch else None))
+goal_named = meaning_in (
+    (codes "task", goal.Task) ∷
+    (codes "ack", goal.Ack) ∷
+    (codes "watch", goal.Watch) ∷
+    [])
 
 -- the step has to be of the kind that the goal needs
 abbrev pub fit_await : List Step → ℕ → Goal → Result Step Misfit
@@ -164,10 +165,3 @@ step_of nodes queues before d =
     object_of d >>= λ _.
     required (codes "do") text_of d >>= λ word.
     step_as nodes queues before word d
-
--- ---- what is so of the nodes that are asked
-
--- a node of the script, which no one before it is
-pub record IsNewAsked (nodes : List ScriptNode) (before : List (List ℕ)) (name : List ℕ) : Type 0 where
-  pub known : IsTrue (is_node_among nodes name)
-  pub apart : list_any (bytes_eq name) before ≡ false

@@ -1,6 +1,6 @@
 -- The task of a submit, whose members are told by the form of task that the queue's executor takes. All of it is this
 -- project's own.
-use Rattle.std.specs.Prelude.{ℕ, Bool, true, false, List, [], ◌∷◌, Some, None, Option, Result, Ok, codes, bytes_eq, if◌then◌else◌}
+use Rattle.std.specs.Prelude.{ℕ, Bool, true, false, List, [], ◌∷◌, Some, None, Option, Result, Ok, codes, if◌then◌else◌}
 use Rattle.serde_json.specs.Data.{Data}
 use Rattle.serde_json.specs.Find.{as_null, as_str}
 use Rattle.executors.specs.declared.task_forms.TaskForm.{TaskForm}
@@ -12,7 +12,7 @@ use Rattle.script_form.specs.declared.misfits.Misfit.{Misfit}
 use Rattle.script_form.specs.declared.rules.Rule.TheVariants.{WrongType}
 use Rattle.script_form.specs.Misfits.{◌>>=◌, bad}
 use Rattle.script_form.specs.Nodes.{node_named}
-use Rattle.script_form.specs.Parts.{check_members, required, optional, flag_of, text_of, whole_of, word_of}
+use Rattle.script_form.specs.Parts.{check_members, required, optional, flag_of, text_of, whole_of, word_of, meaning_in}
 
 -- an index of 1 shard and 1 replica where it doesn't say so
 unfoldable pub creation_of : Data → Result Task Misfit
@@ -46,7 +46,10 @@ opening_of d =
 
 -- `add`, which is true, or `remove`
 unfoldable pub addition_named : List ℕ → Option Bool
-addition_named word = if bytes_eq word (codes "add") then Some true else (if bytes_eq word (codes "remove") then Some false else None)
+addition_named = meaning_in (
+    (codes "add", true) ∷
+    (codes "remove", false) ∷
+    [])
 
 unfoldable pub alias_task_of : Data → Result Task Misfit
 alias_task_of d =
@@ -74,7 +77,10 @@ cluster_setting_of d =
 
 -- `join`, which is true, or `leave`
 unfoldable pub joining_named : List ℕ → Option Bool
-joining_named word = if bytes_eq word (codes "join") then Some true else (if bytes_eq word (codes "leave") then Some false else None)
+joining_named = meaning_in (
+    (codes "join", true) ∷
+    (codes "leave", false) ∷
+    [])
 
 -- a joining node votes if the script's node does
 abbrev pub node_task : ScriptNode → Bool → Task

@@ -1,12 +1,13 @@
-ghost use Rattle.std.specs.Prelude.{◌≡◌, [], IfOk, IsTrue, None, bytes_eq, codes, length, map};
+ghost use Rattle.std.specs.Prelude.{◌≡◌, ◌^◌, [], IfOk, IsTrue, None, bytes_eq, codes, map, refl};
 ghost use Rattle.std.specs.List.{list_any};
 ghost use Rattle.serde_json.specs.View.{view};
 ghost use Rattle.scripts.specs.ValidSteps.{are_asked, is_ack, is_if_some, is_time};
-ghost use Rattle.script_form.specs.Misfits.{Reads, at_place, within};
+ghost use Rattle.script_form.specs.Misfits.{Reads};
 ghost use Rattle.script_form.specs.Parts.{each, optional};
-ghost use Rattle.script_form.specs.Steps.{IsNewAsked, ack_of, asked_of, next_asked, some_ack_of, some_time_of};
+ghost use Rattle.script_form.specs.Steps.{ack_of, asked_of, next_asked, some_ack_of, some_time_of};
 
-use crate::misfits::{Misfit, against, in_member, in_place};
+use crate::list_readers::{ListReader, read_each};
+use crate::misfits::{Misfit, against, in_member};
 use crate::nodes::node_named_in;
 use crate::parts::{check_members, member, time_in, values_of};
 use crate::rules::Rule;
@@ -68,54 +69,43 @@ fn asked_in(
     match value.as_str() {
         Some("all") => Ok(None),
         Some(_) => Err(against(alloc, Rule::Value)),
-        None => Ok(Some(each_asked(alloc, nodes, values_of(alloc, value)?)?)),
+        None => Ok(Some(asked_among(alloc, nodes, values_of(alloc, value)?)?)),
     }
 }
 
-/// The asked nodes, one after the other.
-fn each_asked(alloc: Global, nodes: &[ScriptNode], values: &[Value]) -> Result<Items<Text>, Misfit>
+/// The asked nodes of a list.
+fn asked_among(alloc: Global, nodes: &[ScriptNode], values: &[Value]) -> Result<Items<Text>, Misfit>
     ensures exact { Reads (λ a. a) result (each (next_asked nodes.now) [] (map view values.now)) }
     ensures valid { IfOk result (λ asked. IsTrue (are_asked nodes.now asked)) }
 {
-    let mut asked = Items::new(alloc);
-    for value in values {
-        let name = next_asked_in(alloc, nodes, &asked, value)?;
-        asked.push(name)?;
-    }
-    Ok(asked)
+    read_each(alloc, &AskedReader { nodes }, values)
 }
 
-/// The node that is asked after those before it, seen from their list.
-fn next_asked_in(
-    alloc: Global,
-    nodes: &[ScriptNode],
-    before: &Items<Text>,
-    value: &Value,
-) -> Result<Text, Misfit>
-    ensures exact { Reads (λ a. a) result (within (at_place (length before.now)) (next_asked nodes.now before.now (view value.now))) }
-    ensures new { IfOk result (IsNewAsked nodes.now before.now) }
-{
-    in_place(
-        alloc,
-        before.len(),
-        fit_asked_in(alloc, nodes, before.as_slice(), value),
-    )
+/// Reads the nodes that are asked: none is asked twice.
+#[derive(Drop)]
+struct AskedReader<'a> {
+    nodes: &'a [ScriptNode],
 }
 
-fn fit_asked_in(
-    alloc: Global,
-    nodes: &[ScriptNode],
-    before: &[Text],
-    value: &Value,
-) -> Result<Text, Misfit>
-    ensures exact { Reads (λ a. a) result (next_asked nodes.now before.now (view value.now)) }
-    ensures new { IfOk result (IsNewAsked nodes.now before.now) }
-{
-    let node = node_named_in(alloc, nodes, value)?;
-    if is_among(before, node.name.as_str()) {
-        Err(against(alloc, Rule::Twice))
-    } else {
-        Ok(node.name.copy()?)
+impl<'a> ListReader for AskedReader<'a> {
+    type Item = Text;
+
+    ghost reads = { λ r. next_asked r.nodes.now };
+
+    ghost holds = { λ r names. IsTrue (are_asked r.nodes.now names) };
+
+    ghost most = { λ _. 2 ^ 64 };
+
+    ghost begins = { λ _. refl };
+
+    #[tactic(auto, using(crate::proofs::Names::are_asked_push))]
+    fn read_next(&self, alloc: Global, before: &[Text], value: &Value) -> Result<Text, Misfit> {
+        let node = node_named_in(alloc, self.nodes, value)?;
+        if is_among(before, node.name.as_str()) {
+            Err(against(alloc, Rule::Twice))
+        } else {
+            Ok(node.name.copy()?)
+        }
     }
 }
 

@@ -1,14 +1,15 @@
-ghost use Rattle.std.specs.Prelude.{◌≡◌, ◌≤◌, [], IfOk, IsTrue, false, length, map};
-ghost use Rattle.std.specs.List.{list_all, list_any};
+ghost use Rattle.std.specs.Prelude.{◌≡◌, ◌≤◌, IfOk, IsTrue, false, length, refl};
+ghost use Rattle.std.specs.List.{list_any};
 ghost use Rattle.serde_json.specs.View.{view};
-ghost use Rattle.scripts.specs.Scripts.{are_faults_distinct, is_fault, is_master};
+ghost use Rattle.scripts.specs.Scripts.{is_fault, is_master};
 ghost use Rattle.scripts.specs.ValidSteps.{is_node_among};
-ghost use Rattle.script_form.specs.Faults.{IsNewFault, fault_named, fault_of, faults_of, follower_of, is_same_place, next_fault};
-ghost use Rattle.script_form.specs.Misfits.{Reads, at_place, within};
-ghost use Rattle.script_form.specs.Parts.{each, word_of};
+ghost use Rattle.script_form.specs.Faults.{AreFaults, fault_named, fault_of, faults_of, fit_fault, follower_of, is_same_place, next_fault};
+ghost use Rattle.script_form.specs.Misfits.{Reads};
+ghost use Rattle.script_form.specs.Parts.{word_of};
 
 use crate::limits::LimitName;
-use crate::misfits::{Misfit, against, in_member, in_place};
+use crate::list_readers::{ListReader, read_each};
+use crate::misfits::{Misfit, against, in_member};
 use crate::nodes::node_named_in;
 use crate::parts::{check_members, member, positive_in, text_in, values_up_to};
 use crate::rules::Rule;
@@ -25,55 +26,42 @@ pub(crate) fn faults_in(
 ) -> Result<Items<Fault>, Misfit>
     ensures exact { Reads (λ f. f) result (faults_of nodes.now (view value.now)) }
     ensures limit { IfOk result (λ faults. length faults ≤ 1024) }
-    ensures valid { IfOk result (λ faults. IsTrue (list_all (is_fault nodes.now) faults)) }
-    ensures distinct { IfOk result (λ faults. IsTrue (are_faults_distinct faults)) }
+    ensures valid { IfOk result (AreFaults nodes.now) }
 {
     let values = values_up_to(alloc, value, 1024, LimitName::Faults)?;
-    each_fault(alloc, nodes, values)
+    read_each(alloc, &FaultReader { nodes }, values)
 }
 
-/// The faults, one after the other.
-fn each_fault(alloc: Global, nodes: &[ScriptNode], values: &[Value]) -> Result<Items<Fault>, Misfit>
-    ensures exact { Reads (λ f. f) result (each (next_fault nodes.now) [] (map view values.now)) }
-    ensures count { IfOk result (λ faults. length faults ≡ length values.now) }
-    ensures valid { IfOk result (λ faults. IsTrue (list_all (is_fault nodes.now) faults)) }
-    ensures distinct { IfOk result (λ faults. IsTrue (are_faults_distinct faults)) }
-{
-    let mut faults = Items::new(alloc);
-    for value in values {
-        let fault = next_fault_in(alloc, nodes, &faults, value)?;
-        faults.push(fault)?;
+/// Reads faults: no two are at one publication to a node.
+#[derive(Drop)]
+struct FaultReader<'a> {
+    nodes: &'a [ScriptNode],
+}
+
+impl<'a> ListReader for FaultReader<'a> {
+    type Item = Fault;
+
+    ghost reads = { λ r. next_fault r.nodes.now };
+
+    ghost holds = { λ r. AreFaults r.nodes.now };
+
+    ghost most = { λ _. 1024 };
+
+    ghost begins = { λ _. record { valid = refl; distinct = refl } };
+
+    #[tactic(auto, using(crate::proofs::Places::faults_push))]
+    fn read_next(&self, alloc: Global, before: &[Fault], value: &Value) -> Result<Fault, Misfit> {
+        let fault = fault_in(alloc, self.nodes, value)?;
+        check_fault(alloc, before, fault)
     }
-    Ok(faults)
 }
 
-/// The fault that stands after those before it, seen from their list.
-fn next_fault_in(
-    alloc: Global,
-    nodes: &[ScriptNode],
-    before: &Items<Fault>,
-    value: &Value,
-) -> Result<Fault, Misfit>
-    ensures exact { Reads (λ f. f) result (within (at_place (length before.now)) (next_fault nodes.now before.now (view value.now))) }
-    ensures new { IfOk result (IsNewFault nodes.now before.now) }
+/// Asks that no fault be at the same publication to the same node.
+fn check_fault(alloc: Global, before: &[Fault], fault: Fault) -> Result<Fault, Misfit>
+    ensures exact { Reads (λ f. f) result (fit_fault before.now fault) }
+    ensures passes { IfOk result (λ f. f ≡ fault) }
+    ensures apart { IfOk result (λ f. list_any (is_same_place f) before.now ≡ false) }
 {
-    in_place(
-        alloc,
-        before.len(),
-        fit_fault_in(alloc, nodes, before.as_slice(), value),
-    )
-}
-
-fn fit_fault_in(
-    alloc: Global,
-    nodes: &[ScriptNode],
-    before: &[Fault],
-    value: &Value,
-) -> Result<Fault, Misfit>
-    ensures exact { Reads (λ f. f) result (next_fault nodes.now before.now (view value.now)) }
-    ensures new { IfOk result (IsNewFault nodes.now before.now) }
-{
-    let fault = fault_in(alloc, nodes, value)?;
     if has_fault(before, &fault) {
         Err(against(alloc, Rule::Twice))
     } else {

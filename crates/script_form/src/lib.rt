@@ -6,6 +6,7 @@ mod built;
 mod clients;
 mod faults;
 mod limits;
+mod list_readers;
 mod misfits;
 mod nodes;
 mod parts;

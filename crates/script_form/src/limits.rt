@@ -3,23 +3,32 @@ use std::fmt;
 /// A limit of a script's size. It prints as one word.
 #[derive(Clone, Copy, Debug, PartialEq, Eq)]
 pub enum LimitName {
-    /// How deep a predicate nests.
+    /// How deep a predicate nests: at most 16 deep, the outermost being 1.
     Depth,
 
-    /// The steps of one client.
+    /// The steps of one client: at most 4,096.
     Steps,
+
+    /// The nodes of the script: at most 30.
     Nodes,
+
+    /// The queues of the script: at most 64.
     Queues,
+
+    /// The clients of the script: at most 32.
     Clients,
+
+    /// The faults of the script: at most 1,024.
     Faults,
 
-    /// The turns of the schedule.
+    /// The turns of the schedule: at most 65,536.
     Schedule,
 
-    /// The predicates that one watch has after its first.
+    /// The predicates that one watch has after its first: at most 8.
     Then,
 
-    /// What a replay would have to do in all.
+    /// What a replay would have to do in all: the square of the submits times the nodes is at most 8,000,000, and the
+    /// submits times the looks at aliases at most 4,000,000.
     Work,
 }
 

@@ -1,15 +1,15 @@
-ghost use Rattle.std.specs.Prelude.{◌≡◌, ◌≤◌, [], IfOk, IsTrue, length, map};
+ghost use Rattle.std.specs.Prelude.{◌≡◌, IfOk, IsTrue, refl};
 ghost use Rattle.std.specs.Option.{option_copied};
 ghost use Rattle.serde_json.specs.View.{view};
 ghost use Rattle.scripts.specs.Names.{is_name};
 ghost use Rattle.scripts.specs.ValidSteps.{is_node_among, is_node_so};
-ghost use Rattle.script_form.specs.Misfits.{Reads, at_place, within};
-ghost use Rattle.script_form.specs.Naming.{AreNamed, IsNewTo};
-ghost use Rattle.script_form.specs.Parts.{each};
-ghost use Rattle.script_form.specs.Nodes.{AreNodes, find_node, fit_node, is_fit_first, is_led, is_node_name, next_node, node_name, node_named, node_of, nodes_of};
+ghost use Rattle.script_form.specs.Misfits.{Reads};
+ghost use Rattle.script_form.specs.Naming.{IsNewTo};
+ghost use Rattle.script_form.specs.Nodes.{AreLed, AreNodes, find_node, fit_node, is_fit_first, next_node, node_name, node_named, node_of, nodes_of};
 
 use crate::limits::LimitName;
-use crate::misfits::{Misfit, against, in_member, in_place};
+use crate::list_readers::{ListReader, read_each};
+use crate::misfits::{Misfit, against, in_member};
 use crate::parts::{check_members, flag_or, member, name_in, text_in, values_up_to};
 use crate::rules::Rule;
 use plain_data::Items;
@@ -27,48 +27,34 @@ pub(crate) fn nodes_in(alloc: Global, value: &Value) -> Result<Items<ScriptNode>
     if values.is_empty() {
         return Err(against(alloc, Rule::Range));
     }
-    each_node(alloc, values)
+    read_each(alloc, &NodeReader, values)
 }
 
-/// The nodes, one after the other.
-fn each_node(alloc: Global, values: &[Value]) -> Result<Items<ScriptNode>, Misfit>
-    ensures exact { Reads (λ n. n) result (each next_node [] (map view values.now)) }
-    ensures count { IfOk result (λ nodes. length nodes ≡ length values.now) }
-    ensures named { IfOk result (AreNamed node_name) }
-    ensures led { IfOk result (λ nodes. IsTrue (is_led nodes)) }
-{
-    let mut nodes = Items::new(alloc);
-    for value in values {
-        let node = next_node_in(alloc, &nodes, value)?;
-        nodes.push(node)?;
+/// Reads nodes: each has a name of its own, and the first may be the master.
+#[derive(Drop)]
+struct NodeReader;
+
+impl ListReader for NodeReader {
+    type Item = ScriptNode;
+
+    ghost reads = { λ _. next_node };
+
+    ghost holds = { λ _. AreLed };
+
+    ghost most = { λ _. 30 };
+
+    ghost begins = { λ _. record { names = record { named = refl; distinct = refl }; led = refl } };
+
+    #[tactic(auto, using(crate::proofs::Names::led_push))]
+    fn read_next(
+        &self,
+        alloc: Global,
+        before: &[ScriptNode],
+        value: &Value,
+    ) -> Result<ScriptNode, Misfit> {
+        let node = node_in(alloc, value)?;
+        check_node(alloc, before, node)
     }
-    Ok(nodes)
-}
-
-/// The node that stands after those before it, seen from their list.
-fn next_node_in(
-    alloc: Global,
-    before: &Items<ScriptNode>,
-    value: &Value,
-) -> Result<ScriptNode, Misfit>
-    ensures exact { Reads (λ n. n) result (within (at_place (length before.now)) (next_node before.now (view value.now))) }
-    ensures new { IfOk result (IsNewTo node_name before.now) }
-    ensures fit { IfOk result (λ node. IsTrue (is_fit_first before.now node)) }
-{
-    in_place(
-        alloc,
-        before.len(),
-        fit_node_in(alloc, before.as_slice(), value),
-    )
-}
-
-fn fit_node_in(alloc: Global, before: &[ScriptNode], value: &Value) -> Result<ScriptNode, Misfit>
-    ensures exact { Reads (λ n. n) result (next_node before.now (view value.now)) }
-    ensures new { IfOk result (IsNewTo node_name before.now) }
-    ensures fit { IfOk result (λ node. IsTrue (is_fit_first before.now node)) }
-{
-    let node = node_in(alloc, value)?;
-    check_node(alloc, before, node)
 }
 
 #[tactic(auto, unfolding(crate::specs::Nodes::node_of))]
@@ -108,7 +94,7 @@ fn check_node(alloc: Global, before: &[ScriptNode], node: ScriptNode) -> Result<
 }
 
 fn has_node(nodes: &[ScriptNode], name: &str) -> bool
-    ensures { result ≡ is_node_name nodes.now name.now }
+    ensures { result ≡ is_node_among nodes.now name.now }
 {
     nodes.iter().any(|node| name == node.name.as_str())
 }

@@ -1,14 +1,15 @@
-ghost use Rattle.std.specs.Prelude.{◌≡◌, ◌≤◌, [], IfOk, IfSome, IsTrue, Some, codes, length, map};
+ghost use Rattle.std.specs.Prelude.{◌≡◌, ◌≤◌, IfOk, IfSome, IsTrue, Some, codes, length, refl};
 ghost use Rattle.serde_json.specs.View.{view};
 ghost use Rattle.scripts.specs.Names.{is_name};
-ghost use Rattle.script_form.specs.Misfits.{Reads, at_place, within};
+ghost use Rattle.script_form.specs.Misfits.{Reads};
 ghost use Rattle.script_form.specs.Naming.{AreNamed, IsNewTo};
-ghost use Rattle.script_form.specs.Parts.{each, optional, word_of};
+ghost use Rattle.script_form.specs.Parts.{optional, word_of};
 ghost use Rattle.script_form.specs.Queues.{find_queue, fit_queue, is_queue_name, kind_at, kind_named, next_queue, priority_named, queue_name, queue_named, queue_of, queues_of};
 ghost use Rattle.scripts.specs.declared.queues.Priority.TheVariants.{Normal};
 
 use crate::limits::LimitName;
-use crate::misfits::{Misfit, against, in_member, in_place};
+use crate::list_readers::{ListReader, read_each};
+use crate::misfits::{Misfit, against, in_member};
 use crate::parts::{check_members, member, name_in, text_in, values_up_to};
 use crate::rules::Rule;
 use executors::Kind;
@@ -24,44 +25,42 @@ pub(crate) fn queues_in(alloc: Global, value: &Value) -> Result<Items<QueueSpec>
     ensures limit { IfOk result (λ queues. length queues ≤ 64) }
 {
     let values = values_up_to(alloc, value, 64, LimitName::Queues)?;
-    each_queue(alloc, values)
+    read_each(alloc, &QueueReader, values)
 }
 
-/// The queues, one after the other.
-fn each_queue(alloc: Global, values: &[Value]) -> Result<Items<QueueSpec>, Misfit>
-    ensures exact { Reads (λ q. q) result (each next_queue [] (map view values.now)) }
-    ensures named { IfOk result (AreNamed queue_name) }
-    ensures count { IfOk result (λ queues. length queues ≡ length values.now) }
-{
-    let mut queues = Items::new(alloc);
-    for value in values {
-        let queue = next_queue_in(alloc, &queues, value)?;
-        queues.push(queue)?;
+/// Reads queues: each has a name of its own.
+#[derive(Drop)]
+struct QueueReader;
+
+impl ListReader for QueueReader {
+    type Item = QueueSpec;
+
+    ghost reads = { λ _. next_queue };
+
+    ghost holds = { λ _. AreNamed queue_name };
+
+    ghost most = { λ _. 64 };
+
+    ghost begins = { λ _. record { named = refl; distinct = refl } };
+
+    #[tactic(auto, using(crate::proofs::Names::names_push))]
+    fn read_next(
+        &self,
+        alloc: Global,
+        before: &[QueueSpec],
+        value: &Value,
+    ) -> Result<QueueSpec, Misfit> {
+        let queue = queue_in(alloc, value)?;
+        check_queue(alloc, before, queue)
     }
-    Ok(queues)
 }
 
-/// The queue that stands after those before it, seen from their list.
-fn next_queue_in(
-    alloc: Global,
-    before: &Items<QueueSpec>,
-    value: &Value,
-) -> Result<QueueSpec, Misfit>
-    ensures exact { Reads (λ q. q) result (within (at_place (length before.now)) (next_queue before.now (view value.now))) }
+/// Asks that a queue have a name of its own.
+fn check_queue(alloc: Global, before: &[QueueSpec], queue: QueueSpec) -> Result<QueueSpec, Misfit>
+    requires { IsTrue (is_name queue.name) }
+    ensures exact { Reads (λ q. q) result (fit_queue before.now queue) }
     ensures new { IfOk result (IsNewTo queue_name before.now) }
 {
-    in_place(
-        alloc,
-        before.len(),
-        fit_queue_in(alloc, before.as_slice(), value),
-    )
-}
-
-fn fit_queue_in(alloc: Global, before: &[QueueSpec], value: &Value) -> Result<QueueSpec, Misfit>
-    ensures exact { Reads (λ q. q) result (next_queue before.now (view value.now)) }
-    ensures new { IfOk result (IsNewTo queue_name before.now) }
-{
-    let queue = queue_in(alloc, value)?;
     if has_queue(before, queue.name.as_str()) {
         in_member(alloc, "name", Err(against(alloc, Rule::Twice)))
     } else {

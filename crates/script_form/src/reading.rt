@@ -1,9 +1,9 @@
 ghost use Rattle.std.specs.Prelude.{◌≡◌, ◌≤◌, [], IfOk, IsTrue, codes, length};
 ghost use Rattle.std.specs.List.{list_all};
 ghost use Rattle.serde_json.specs.View.{view};
-ghost use Rattle.scripts.specs.Scripts.{IsScript, are_faults_distinct, is_fault, is_turn};
+ghost use Rattle.scripts.specs.Scripts.{IsScript, is_turn};
 ghost use Rattle.scripts.specs.Built.{IsBuilt};
-ghost use Rattle.script_form.specs.Faults.{faults_of};
+ghost use Rattle.script_form.specs.Faults.{AreFaults, faults_of};
 ghost use Rattle.script_form.specs.Misfits.{Reads};
 ghost use Rattle.script_form.specs.Parts.{optional};
 ghost use Rattle.script_form.specs.Reading.{AreParts, Gives, IsRefusal, parts_of, refusal_of, script_of, version_of, whole_script};
@@ -23,7 +23,7 @@ use crate::rules::Rule;
 use crate::turns::schedule_in;
 use crate::works::is_workable;
 use plain_data::{Items, Text};
-use scripts::{Fault, Script, ScriptNode, ScriptTurn, Step};
+use scripts::{Fault, Script, ScriptNode, ScriptTurn};
 use serde_json::Value;
 use std::alloc::Global;
 
@@ -117,7 +117,7 @@ fn parts_in(alloc: Global, value: &Value) -> Result<Script, Misfit>
     let clients = clients_in(alloc, nodes.as_slice(), queues.as_slice(), clients);
     let clients = in_member(alloc, "clients", clients)?;
     let faults = faults_or_none(alloc, nodes.as_slice(), value)?;
-    let schedule = schedule_or_none(alloc, nodes.as_slice(), clients.as_slice(), value)?;
+    let schedule = schedule_or_none(alloc, nodes.as_slice(), clients.len(), value)?;
     Ok(Script {
         version,
         cluster,
@@ -149,8 +149,7 @@ fn faults_or_none(
 ) -> Result<Items<Fault>, Misfit>
     ensures exact { Reads (λ f. f) result (optional (codes "faults") [] (faults_of nodes.now) (view value.now)) }
     ensures limit { IfOk result (λ faults. length faults ≤ 1024) }
-    ensures valid { IfOk result (λ faults. IsTrue (list_all (is_fault nodes.now) faults)) }
-    ensures distinct { IfOk result (λ faults. IsTrue (are_faults_distinct faults)) }
+    ensures valid { IfOk result (AreFaults nodes.now) }
 {
     match value.get("faults") {
         None => Ok(Items::new(alloc)),
@@ -161,13 +160,12 @@ fn faults_or_none(
 fn schedule_or_none(
     alloc: Global,
     nodes: &[ScriptNode],
-    clients: &[Items<Step>],
+    clients: usize,
     value: &Value,
 ) -> Result<Items<ScriptTurn>, Misfit>
-    requires { length clients.now ≤ 32 }
-    ensures exact { Reads (λ t. t) result (optional (codes "schedule") [] (schedule_of nodes.now (length clients.now)) (view value.now)) }
+    ensures exact { Reads (λ t. t) result (optional (codes "schedule") [] (schedule_of nodes.now clients) (view value.now)) }
     ensures limit { IfOk result (λ turns. length turns ≤ 65536) }
-    ensures valid { IfOk result (λ turns. IsTrue (list_all (is_turn nodes.now (length clients.now)) turns)) }
+    ensures valid { IfOk result (λ turns. IsTrue (list_all (is_turn nodes.now clients) turns)) }
 {
     match value.get("schedule") {
         None => Ok(Items::new(alloc)),

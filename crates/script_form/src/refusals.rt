@@ -1,11 +1,15 @@
+ghost use Rattle.std.specs.Prelude.{◌≡◌};
+ghost use Rattle.script_form.specs.Refusals.{script_refusal_number};
+
 use crate::limits::LimitName;
 use crate::rules::Rule;
 use plain_data::Text;
-use std::error::Error;
 use std::fmt;
+use thiserror::Error;
 
-/// Why a script was not read. It prints as what the program says after the word `refused`.
-#[derive(Debug, Drop)]
+/// Why a script was not read. It prints as what the program says after the word `refused`, and has a number from 1 to
+/// 4.
+#[derive(Debug, Drop, Error)]
 pub enum ScriptRefusal {
     /// The bytes aren't JSON in UTF-8, or nest deeper than 127.
     NotJson,
@@ -18,6 +22,20 @@ pub enum ScriptRefusal {
 
     /// There was not enough memory. It says nothing of the script.
     OutOfMemory,
+}
+
+impl ScriptRefusal {
+    /// Its number, from 1 to 4 in the order above.
+    pub fn number(&self) -> u8
+        ensures { result ≡ script_refusal_number self.now }
+    {
+        match self {
+            ScriptRefusal::NotJson => 1,
+            ScriptRefusal::BadShape { .. } => 2,
+            ScriptRefusal::Limit { .. } => 3,
+            ScriptRefusal::OutOfMemory => 4,
+        }
+    }
 }
 
 impl fmt::Display for ScriptRefusal {
@@ -35,5 +53,3 @@ impl fmt::Display for ScriptRefusal {
         }
     }
 }
-
-impl Error for ScriptRefusal {}

@@ -1,19 +1,19 @@
-ghost use Rattle.std.specs.Prelude.{◌≡◌, ◌≤◌, [], IfOk, IsTrue, length, map};
+ghost use Rattle.std.specs.Prelude.{◌≡◌, ◌≤◌, [], IfOk, IsTrue, length, refl};
 ghost use Rattle.std.specs.List.{list_all};
 ghost use Rattle.serde_json.specs.View.{view};
 ghost use Rattle.scripts.specs.Scripts.{is_turn};
-ghost use Rattle.script_form.specs.Misfits.{Reads, at_place, within};
+ghost use Rattle.script_form.specs.Misfits.{Reads};
 ghost use Rattle.script_form.specs.Nodes.{find_node};
-ghost use Rattle.script_form.specs.Parts.{each};
 ghost use Rattle.script_form.specs.Turns.{client_turn, is_decimal, is_digit, master_turn, more, named_turn, next_turn, node_turn, number_of, schedule_of, turn_in, turn_of};
 
 use crate::limits::LimitName;
-use crate::misfits::{Misfit, against, in_place};
+use crate::list_readers::{ListReader, read_each};
+use crate::misfits::{Misfit, against};
 use crate::nodes::find;
 use crate::parts::{text_in, values_up_to};
 use crate::rules::Rule;
 use plain_data::Items;
-use scripts::{ScriptNode, ScriptTurn, Step};
+use scripts::{ScriptNode, ScriptTurn};
 use serde_json::Value;
 use std::alloc::Global;
 
@@ -21,63 +21,54 @@ use std::alloc::Global;
 pub(crate) fn schedule_in(
     alloc: Global,
     nodes: &[ScriptNode],
-    clients: &[Items<Step>],
+    clients: usize,
     value: &Value,
 ) -> Result<Items<ScriptTurn>, Misfit>
-    requires { length clients.now ≤ 32 }
-    ensures exact { Reads (λ t. t) result (schedule_of nodes.now (length clients.now) (view value.now)) }
+    ensures exact { Reads (λ t. t) result (schedule_of nodes.now clients (view value.now)) }
     ensures limit { IfOk result (λ turns. length turns ≤ 65536) }
-    ensures valid { IfOk result (λ turns. IsTrue (list_all (is_turn nodes.now (length clients.now)) turns)) }
+    ensures valid { IfOk result (λ turns. IsTrue (list_all (is_turn nodes.now clients) turns)) }
 {
     let values = values_up_to(alloc, value, 65536, LimitName::Schedule)?;
-    each_turn(alloc, nodes, clients, values)
+    read_each(alloc, &TurnReader { nodes, clients }, values)
 }
 
-/// The turns, one after the other.
-fn each_turn(
-    alloc: Global,
-    nodes: &[ScriptNode],
-    clients: &[Items<Step>],
-    values: &[Value],
-) -> Result<Items<ScriptTurn>, Misfit>
-    requires { length clients.now ≤ 32 }
-    ensures exact { Reads (λ t. t) result (each (next_turn nodes.now (length clients.now)) [] (map view values.now)) }
-    ensures count { IfOk result (λ turns. length turns ≡ length values.now) }
-    ensures valid { IfOk result (λ turns. IsTrue (list_all (is_turn nodes.now (length clients.now)) turns)) }
-{
-    let mut turns = Items::new(alloc);
-    for value in values {
-        let turn = next_turn_in(alloc, nodes, clients, turns.len(), value)?;
-        turns.push(turn)?;
+/// Reads turns, of these nodes and of so many clients.
+#[derive(Drop)]
+struct TurnReader<'a> {
+    nodes: &'a [ScriptNode],
+    clients: usize,
+}
+
+impl<'a> ListReader for TurnReader<'a> {
+    type Item = ScriptTurn;
+
+    ghost reads = { λ r. next_turn r.nodes.now r.clients };
+
+    ghost holds = { λ r turns. IsTrue (list_all (is_turn r.nodes.now r.clients) turns) };
+
+    ghost most = { λ _. 65536 };
+
+    ghost begins = { λ _. refl };
+
+    fn read_next(
+        &self,
+        alloc: Global,
+        _before: &[ScriptTurn],
+        value: &Value,
+    ) -> Result<ScriptTurn, Misfit> {
+        turn_in_value(alloc, self.nodes, self.clients, value)
     }
-    Ok(turns)
-}
-
-/// The turn at a place, seen from the schedule.
-fn next_turn_in(
-    alloc: Global,
-    nodes: &[ScriptNode],
-    clients: &[Items<Step>],
-    place: usize,
-    value: &Value,
-) -> Result<ScriptTurn, Misfit>
-    requires { length clients.now ≤ 32 }
-    ensures exact { Reads (λ t. t) result (within (at_place place) (turn_of nodes.now (length clients.now) (view value.now))) }
-    ensures valid { IfOk result (λ turn. IsTrue (is_turn nodes.now (length clients.now) turn)) }
-{
-    in_place(alloc, place, turn_in_value(alloc, nodes, clients, value))
 }
 
 #[tactic(auto, unfolding(crate::specs::Turns::turn_of))]
 fn turn_in_value(
     alloc: Global,
     nodes: &[ScriptNode],
-    clients: &[Items<Step>],
+    clients: usize,
     value: &Value,
 ) -> Result<ScriptTurn, Misfit>
-    requires { length clients.now ≤ 32 }
-    ensures exact { Reads (λ t. t) result (turn_of nodes.now (length clients.now) (view value.now)) }
-    ensures valid { IfOk result (λ turn. IsTrue (is_turn nodes.now (length clients.now) turn)) }
+    ensures exact { Reads (λ t. t) result (turn_of nodes.now clients (view value.now)) }
+    ensures valid { IfOk result (λ turn. IsTrue (is_turn nodes.now clients turn)) }
 {
     let text = text_in(alloc, value)?;
     turn_of_text(alloc, nodes, clients, text.as_bytes())
@@ -87,12 +78,11 @@ fn turn_in_value(
 fn turn_of_text(
     alloc: Global,
     nodes: &[ScriptNode],
-    clients: &[Items<Step>],
+    clients: usize,
     text: &[u8],
 ) -> Result<ScriptTurn, Misfit>
-    requires { length clients.now ≤ 32 }
-    ensures exact { Reads (λ t. t) result (turn_in nodes.now (length clients.now) text.now) }
-    ensures valid { IfOk result (λ turn. IsTrue (is_turn nodes.now (length clients.now) turn)) }
+    ensures exact { Reads (λ t. t) result (turn_in nodes.now clients text.now) }
+    ensures valid { IfOk result (λ turn. IsTrue (is_turn nodes.now clients turn)) }
 {
     match text.split_first() {
         None => Err(against(alloc, Rule::Value)),
@@ -123,20 +113,15 @@ fn master_turn_of(alloc: Global, rest: &[u8]) -> Result<ScriptTurn, Misfit>
 }
 
 /// The turn of the client of a number.
-fn client_turn_of(
-    alloc: Global,
-    clients: &[Items<Step>],
-    digits: &[u8],
-) -> Result<ScriptTurn, Misfit>
-    requires { length clients.now ≤ 32 }
-    ensures exact { Reads (λ t. t) result (client_turn (length clients.now) digits.now) }
-    ensures valid { IfOk result (λ turn. IsTrue (is_turn [] (length clients.now) turn)) }
+fn client_turn_of(alloc: Global, clients: usize, digits: &[u8]) -> Result<ScriptTurn, Misfit>
+    ensures exact { Reads (λ t. t) result (client_turn clients digits.now) }
+    ensures valid { IfOk result (λ turn. IsTrue (is_turn [] clients turn)) }
 {
     if !is_number(digits) {
         return Err(against(alloc, Rule::Value));
     }
     let number = number_in(digits);
-    if (number as usize) < clients.len() {
+    if (number as usize) < clients {
         Ok(ScriptTurn::Client(number))
     } else {
         Err(against(alloc, Rule::Reference))

@@ -10,10 +10,8 @@ returns-clause-valid c = record {
   queues_limit = search rules;
   clients_limit = search rules;
   clients = search rules;
-  one_close = search rules;
   faults_limit = search rules;
   faults = search rules;
-  faults_distinct = search rules;
   schedule_limit = search rules;
-  schedule = rw (c.as_slice-4.ensures, c.as_slice-5.ensures) at c.in_ok-schedule.ensures.valid;
+  schedule = rw (c.as_slice-4.ensures, c.len.ensures) at c.in_ok-schedule.ensures.valid;
 }
