@@ -122,16 +122,18 @@ fn apply(alloc: Global, node: &mut NodeRec, versions: &[u32]) -> Result<(), OutO
     Ok(())
 }
 
-// The list of a change at a place from 0.
-fn list_at(change: &mut Change, place: u32) -> &mut Items<Text> {
+// A change with these words in its list at a place from 0, the others being empty.
+fn change_at(alloc: Global, place: u32, list: Items<Text>) -> Change {
+    let mut change = no_change(alloc);
     match place {
-        0 => &mut change.created,
-        1 => &mut change.deleted,
-        2 => &mut change.changed,
-        3 => &mut change.joined,
-        4 => &mut change.left,
-        _ => &mut change.settings,
+        0 => change.created = list,
+        1 => change.deleted = list,
+        2 => change.changed = list,
+        3 => change.joined = list,
+        4 => change.left = list,
+        _ => change.settings = list,
     }
+    change
 }
 
 fn put_change(
@@ -140,10 +142,7 @@ fn put_change(
     place: u32,
     words: &[&str],
 ) -> Result<(), OutOfMemory> {
-    let mut change = no_change(alloc);
-    for word in words {
-        list_at(&mut change, place).push(Text::from_str(alloc, word)?)?;
-    }
+    let change = change_at(alloc, place, names(alloc, words)?);
     node.applies.push(applied(1, 3, [3, 3, 3, 3], change))
 }
 
