@@ -11,16 +11,16 @@ use std::alloc::Global;
 use std::process::Abort;
 use std::test::Fail;
 
+fn put_taken(alloc: Global, state: &mut ClusterState) -> Result<(), OutOfMemory> {
+    state.metadata.created = 1;
+    let index = index_with(alloc, 1, &["other"])?;
+    put_index(alloc, state, "taken", index)
+}
+
 // The cluster "demo" of one node, in which the index "taken" was created with the alias "other".
 fn demo(alloc: Global) -> Result<ClusterState, OutOfMemory> {
     let mut state = first_of(alloc, &[("n0", true)])?;
-    state.metadata.created = 1;
-    put_index(
-        alloc,
-        &mut state,
-        "taken",
-        index_with(alloc, 1, &["other"])?,
-    )?;
+    put_taken(alloc, &mut state)?;
     Ok(state)
 }
 

@@ -9,6 +9,7 @@ use session_law::{
     AckEnd, AckReply, Apply, BatchResult, Change, NodeRec, Reply, Session, TaskEnd, Watch, WatchEnd,
 };
 use std::alloc::Global;
+use std::process::Abort;
 use std::test::Fail;
 
 // Each row changes one thing of a session of good form, and says whether it stays one. That the keys of a map are out
@@ -121,16 +122,18 @@ fn apply(alloc: Global, node: &mut NodeRec, versions: &[u32]) -> Result<(), OutO
     Ok(())
 }
 
-// The list of a change at a place from 0.
-fn list_at(change: &mut Change, place: u32) -> &mut Items<Text> {
+// A change with these words in its list at a place from 0, the others being empty.
+fn change_at(alloc: Global, place: u32, list: Items<Text>) -> Change {
+    let mut change = no_change(alloc);
     match place {
-        0 => &mut change.created,
-        1 => &mut change.deleted,
-        2 => &mut change.changed,
-        3 => &mut change.joined,
-        4 => &mut change.left,
-        _ => &mut change.settings,
+        0 => change.created = list,
+        1 => change.deleted = list,
+        2 => change.changed = list,
+        3 => change.joined = list,
+        4 => change.left = list,
+        _ => change.settings = list,
     }
+    change
 }
 
 fn put_change(
@@ -139,10 +142,7 @@ fn put_change(
     place: u32,
     words: &[&str],
 ) -> Result<(), OutOfMemory> {
-    let mut change = no_change(alloc);
-    for word in words {
-        list_at(&mut change, place).push(Text::from_str(alloc, word)?)?;
-    }
+    let change = change_at(alloc, place, names(alloc, words)?);
     node.applies.push(applied(1, 3, [3, 3, 3, 3], change))
 }
 
@@ -253,6 +253,7 @@ fn judged(
     is_good_form(alloc, &made)
 }
 
+// What is changed, how, and whether the session is of good form then.
 type Row = (
     What,
     &'static str,
@@ -261,7 +262,22 @@ type Row = (
     bool,
 );
 
-const ROWS: [Row; 83] = [
+fn judge_all(rt: &impl Abort, alloc: Global, rows: &[Row]) -> Result<(), OutOfMemory> {
+    for (place, (what, name, words, numbers, is_good)) in rows.iter().enumerate() {
+        let found = judged(alloc, *what, name, words, numbers)?;
+        assert!(rt; found == *is_good, "row {place} at {name}");
+    }
+    Ok(())
+}
+
+#[test]
+fn a_session_of_good_form_has_something_of_every_kind(rt: HostRuntime) -> Result<(), Fail> {
+    let alloc = rt.alloc();
+    assert!(rt; is_good_form(alloc, &good(alloc)?)?);
+    Ok(())
+}
+
+const BATCHES: [Row; 13] = [
     // the queue of a batch has a name
     (What::Queue, "create", &[], &[50], true),
     (What::Queue, "9-_", &[], &[50], true),
@@ -276,6 +292,16 @@ const ROWS: [Row; 83] = [
     (What::Tasks, "create", &[], &[50, 50], false),
     (What::Tasks, "create", &[], &[50, 60, 50], false),
     (What::Tasks, "create", &[], &[50, 60, 60], false),
+    // a task may stand in two batches
+    (What::Tasks, "q_2", &[], &[1], true),
+];
+
+#[test]
+fn a_batch_has_a_queue_and_each_task_once(rt: HostRuntime) -> Result<(), Fail> {
+    Ok(judge_all(&rt, rt.alloc(), &BATCHES)?)
+}
+
+const REPLIES: [Row; 10] = [
     // replies and acknowledgements stand by client and step; the last is of step 10 of client 1
     (What::Reply, "", &[], &[1, 11], true),
     (What::Reply, "", &[], &[2, 0], true),
@@ -287,6 +313,14 @@ const ROWS: [Row; 83] = [
     (What::Ack, "", &[], &[1, 10], false),
     (What::Ack, "", &[], &[1, 9], false),
     (What::Ack, "", &[], &[0, 11], false),
+];
+
+#[test]
+fn replies_and_acks_stand_by_client_and_step(rt: HostRuntime) -> Result<(), Fail> {
+    Ok(judge_all(&rt, rt.alloc(), &REPLIES)?)
+}
+
+const WATCHES: [Row; 6] = [
     // watches stand by client, step and part; the last is part 0 of step 6 of client 1
     (What::Watch, "", &[], &[1, 6, 1], true),
     (What::Watch, "", &[], &[1, 7, 0], true),
@@ -294,6 +328,14 @@ const ROWS: [Row; 83] = [
     (What::Watch, "", &[], &[1, 6, 0], false),
     (What::Watch, "", &[], &[1, 5, 1], false),
     (What::Watch, "", &[], &[0, 7, 1], false),
+];
+
+#[test]
+fn watches_stand_by_client_step_and_part(rt: HostRuntime) -> Result<(), Fail> {
+    Ok(judge_all(&rt, rt.alloc(), &WATCHES)?)
+}
+
+const READS: [Row; 11] = [
     // reads stand by client and step; the last is of step 3 of client 1
     (What::Read, "", &["a"], &[1, 4], true),
     (What::Read, "", &["a"], &[2, 0], true),
@@ -307,6 +349,14 @@ const ROWS: [Row; 83] = [
     (What::Read, "", &["a", "a"], &[2, 0], false),
     (What::Read, "", &["A", "b"], &[2, 0], false),
     (What::Read, "", &["a", "b,c"], &[2, 0], false),
+];
+
+#[test]
+fn reads_stand_in_order_and_find_names_in_order(rt: HostRuntime) -> Result<(), Fail> {
+    Ok(judge_all(&rt, rt.alloc(), &READS)?)
+}
+
+const NODES: [Row; 15] = [
     // each record of a node has a name of its own
     (What::Node, "n1", &[], &[], true),
     (What::Node, "N1", &[], &[], false),
@@ -326,6 +376,14 @@ const ROWS: [Row; 83] = [
     // those that it applied rise from the first, 2
     (What::Applied, "", &[], &[2, 3, 4], false),
     (What::Applied, "", &[], &[1, 3, 4], false),
+];
+
+#[test]
+fn each_node_has_a_name_of_its_own_and_versions_that_rise(rt: HostRuntime) -> Result<(), Fail> {
+    Ok(judge_all(&rt, rt.alloc(), &NODES)?)
+}
+
+const VIEWS: [Row; 9] = [
     // views have names of their kinds
     (What::Alias, "a+b", &["a", "b"], &[], true),
     (What::Alias, "All", &["a"], &[], false),
@@ -336,6 +394,14 @@ const ROWS: [Row; 83] = [
     (What::Id, "A", &[], &[], false),
     (What::Value, "a.b", &[], &[], true),
     (What::Value, "a+b", &[], &[], false),
+];
+
+#[test]
+fn views_have_names_of_their_kinds(rt: HostRuntime) -> Result<(), Fail> {
+    Ok(judge_all(&rt, rt.alloc(), &VIEWS)?)
+}
+
+const STATES: [Row; 10] = [
     // the cluster and the master have names
     (What::Cluster, "demo-2", &[], &[], true),
     (What::Cluster, "Demo", &[], &[], false),
@@ -348,6 +414,16 @@ const ROWS: [Row; 83] = [
     (What::Member, "N1", &["N1"], &[], false),
     (What::Member, "n1", &["n2"], &[], false),
     (What::Member, "n1", &["n"], &[], false),
+];
+
+#[test]
+fn the_last_state_has_names_and_each_node_stands_under_its_own(
+    rt: HostRuntime,
+) -> Result<(), Fail> {
+    Ok(judge_all(&rt, rt.alloc(), &STATES)?)
+}
+
+const INDICES: [Row; 9] = [
     // its indices and aliases have names
     (What::Index, "c", &["all"], &[], true),
     (What::Index, "c+d", &["e+f"], &[], true),
@@ -359,19 +435,11 @@ const ROWS: [Row; 83] = [
     (What::Setting, "K", &[], &[], false),
     (What::Setting, "_k", &[], &[], false),
     (What::Setting, "a+b", &[], &[], false),
-    // a task may stand in two batches
-    (What::Tasks, "q_2", &[], &[1], true),
 ];
 
 #[test]
-fn a_session_is_of_good_form_until_one_thing_is_changed(rt: HostRuntime) -> Result<(), Fail> {
-    let alloc = rt.alloc();
-    assert!(rt; is_good_form(alloc, &good(alloc)?)?);
-    for (place, (what, name, words, numbers, is_good)) in ROWS.iter().enumerate() {
-        let found = judged(alloc, *what, name, words, numbers)?;
-        assert!(rt; found == *is_good, "row {place} at {name}");
-    }
-    Ok(())
+fn indices_aliases_and_settings_have_names(rt: HostRuntime) -> Result<(), Fail> {
+    Ok(judge_all(&rt, rt.alloc(), &INDICES)?)
 }
 
 // Words of a list of a change, and in how many of the six lists they may stand, from the first on: of indices created,

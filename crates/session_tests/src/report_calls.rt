@@ -1,6 +1,6 @@
-use crate::whole_session::{good, idle, nodes};
-use plain_data::{Items, OutOfMemory, Text};
-use session_law::{NodeRec, report_text, summary_text};
+use crate::whole_session::{good, idle, without_nodes};
+use plain_data::{OutOfMemory, Text};
+use session_law::{report_text, summary_text};
 use std::alloc::Global;
 use std::test::Fail;
 
@@ -52,18 +52,16 @@ fn a_report_has_every_kind_of_line(rt: HostRuntime) -> Result<(), Fail> {
     Ok(())
 }
 
-// The summary of the session with these nodes.
-fn summed(alloc: Global, nodes: Items<NodeRec>) -> Result<Text, OutOfMemory> {
-    let mut made = good(alloc)?;
-    made.nodes = nodes;
-    summary_text(alloc, &made)
+fn summed(alloc: Global) -> Result<Text, OutOfMemory> {
+    summary_text(alloc, &good(alloc)?)
 }
 
-// One node, which began with the last version.
-fn level(alloc: Global) -> Result<Items<NodeRec>, OutOfMemory> {
-    let mut made = Items::new(alloc);
-    made.push(idle(alloc, "n0", 1)?)?;
-    Ok(made)
+// The summary where there is one node, which began with the last version.
+fn summed_level(alloc: Global) -> Result<Text, OutOfMemory> {
+    let node = idle(alloc, "n0", 1)?;
+    let mut made = without_nodes(alloc)?;
+    made.nodes.push(node)?;
+    summary_text(alloc, &made)
 }
 
 #[test]
@@ -71,12 +69,12 @@ fn a_summary_counts_tasks_indices_and_aliases_and_compares_the_nodes(
     rt: HostRuntime,
 ) -> Result<(), Fail> {
     let alloc = rt.alloc();
-    let differ = summed(alloc, nodes(alloc)?)?;
+    let differ = summed(alloc)?;
     assert_eq!(rt;
         differ.as_str(),
         "tasks 8 ok 1 indices 2 aliases 2 nodes differ\n"
     );
-    let equal = summed(alloc, level(alloc)?)?;
+    let equal = summed_level(alloc)?;
     assert_eq!(rt;
         equal.as_str(),
         "tasks 8 ok 1 indices 2 aliases 2 nodes equal\n"

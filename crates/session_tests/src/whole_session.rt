@@ -7,7 +7,8 @@ use session_law::{
 };
 use std::alloc::Global;
 
-// A session of good form with something of every kind in it.
+// A session of good form with something of every kind in it. What is filled is behind a `&mut`, since a value that may
+// have to be dropped costs proof at each exit.
 
 pub(crate) fn entry(client: u32, step: u32, seen: u32) -> Entry {
     Entry { client, step, seen }
@@ -49,7 +50,7 @@ const DROPPED: BatchResult = BatchResult::PublishFailed {
     accepted: 10,
 };
 
-fn batches(alloc: Global) -> Result<Items<Batch>, OutOfMemory> {
+fn put_batches(alloc: Global, made: &mut Items<Batch>) -> Result<(), OutOfMemory> {
     // queue and time of a batch, its tasks, and what came of it
     let table: [(&str, u64, &[Entry], BatchResult); 6] = [
         (
@@ -74,14 +75,13 @@ fn batches(alloc: Global) -> Result<Items<Batch>, OutOfMemory> {
         ),
         ("q", 0, &[], BatchResult::NotMaster),
     ];
-    let mut made = Items::new(alloc);
     for (queue, at, entries, outcome) in table {
         made.push(batch(alloc, queue, at, entries, outcome)?)?;
     }
-    Ok(made)
+    Ok(())
 }
 
-fn replies(alloc: Global) -> Result<Items<Reply>, OutOfMemory> {
+fn put_replies(made: &mut Items<Reply>) -> Result<(), OutOfMemory> {
     let refusal = TaskRefusal::FinalSetting;
     let failed = TaskEnd::BatchFailed {
         position: 1,
@@ -102,7 +102,6 @@ fn replies(alloc: Global) -> Result<Items<Reply>, OutOfMemory> {
         (1, 0, 20, timeout),
         (1, 10, 20, TaskEnd::Closed { client: 2, step: 7 }),
     ];
-    let mut made = Items::new(alloc);
     for (client, step, at, end) in table {
         made.push(Reply {
             client,
@@ -111,10 +110,10 @@ fn replies(alloc: Global) -> Result<Items<Reply>, OutOfMemory> {
             end,
         })?;
     }
-    Ok(made)
+    Ok(())
 }
 
-fn acks(alloc: Global) -> Result<Items<AckReply>, OutOfMemory> {
+fn put_acks(made: &mut Items<AckReply>) -> Result<(), OutOfMemory> {
     let timeout = AckEnd::Timeout {
         deadline: 5,
         reading: 7,
@@ -124,14 +123,13 @@ fn acks(alloc: Global) -> Result<Items<AckReply>, OutOfMemory> {
         (0, 3, AckEnd::Failed { count: 2 }),
         (1, 10, timeout),
     ];
-    let mut made = Items::new(alloc);
     for (client, step, end) in table {
         made.push(AckReply { client, step, end })?;
     }
-    Ok(made)
+    Ok(())
 }
 
-fn watches(alloc: Global) -> Result<Items<Watch>, OutOfMemory> {
+fn put_watches(made: &mut Items<Watch>) -> Result<(), OutOfMemory> {
     let answered = WatchEnd::Answered { version: 5 };
     let timeout = WatchEnd::Timeout {
         deadline: 12,
@@ -144,7 +142,6 @@ fn watches(alloc: Global) -> Result<Items<Watch>, OutOfMemory> {
         (0, 2, 1, 3, Some(5), 4, 2, timeout),
         (1, 6, 0, 7, Some(0), 9, 1, closed),
     ];
-    let mut made = Items::new(alloc);
     for (client, step, part, at, last, place, shown, end) in table {
         made.push(Watch {
             client,
@@ -157,7 +154,7 @@ fn watches(alloc: Global) -> Result<Items<Watch>, OutOfMemory> {
             end,
         })?;
     }
-    Ok(made)
+    Ok(())
 }
 
 pub(crate) fn names(alloc: Global, words: &[&str]) -> Result<Items<Text>, OutOfMemory> {
@@ -192,17 +189,16 @@ pub(crate) fn put_read(
     })
 }
 
-fn reads(alloc: Global) -> Result<Items<Read>, OutOfMemory> {
-    let mut made = Items::new(alloc);
+fn put_reads(alloc: Global, made: &mut Items<Read>) -> Result<(), OutOfMemory> {
     let found = Found::Names(names(alloc, &["logs-1", "logs-2"])?);
-    put_read(&mut made, 0, 8, 5, found)?;
-    put_read(&mut made, 0, 9, 6, found_index(3, true, 2, 1))?;
-    put_read(&mut made, 1, 0, 7, found_index(4, false, 5, 0))?;
-    put_read(&mut made, 1, 1, 0, Found::Missing)?;
+    put_read(made, 0, 8, 5, found)?;
+    put_read(made, 0, 9, 6, found_index(3, true, 2, 1))?;
+    put_read(made, 1, 0, 7, found_index(4, false, 5, 0))?;
+    put_read(made, 1, 1, 0, Found::Missing)?;
     let found = Found::Value(Text::from_str(alloc, "a\"b\\c\n\u{1}/")?);
-    put_read(&mut made, 1, 2, 8, found)?;
-    put_read(&mut made, 1, 3, 9, Found::Names(Items::new(alloc)))?;
-    Ok(made)
+    put_read(made, 1, 2, 8, found)?;
+    put_read(made, 1, 3, 9, Found::Names(Items::new(alloc)))?;
+    Ok(())
 }
 
 pub(crate) fn applied(from: u64, to: u64, phases: [u64; 4], change: Change) -> Apply {
@@ -239,28 +235,39 @@ pub(crate) fn no_change(alloc: Global) -> Change {
     }
 }
 
+fn put_names(alloc: Global, made: &mut Items<Text>, words: &[&str]) -> Result<(), OutOfMemory> {
+    for word in words {
+        made.push(Text::from_str(alloc, word)?)?;
+    }
+    Ok(())
+}
+
+fn fill_change(alloc: Global, change: &mut Change) -> Result<(), OutOfMemory> {
+    put_names(alloc, &mut change.created, &["a", "b"])?;
+    put_names(alloc, &mut change.changed, &["c"])?;
+    put_names(alloc, &mut change.joined, &["n1"])?;
+    put_names(alloc, &mut change.left, &["n2", "n3"])?;
+    put_names(alloc, &mut change.settings, &["k"])
+}
+
 fn first_change(alloc: Global) -> Result<Change, OutOfMemory> {
     let mut change = no_change(alloc);
-    change.created = names(alloc, &["a", "b"])?;
-    change.changed = names(alloc, &["c"])?;
-    change.joined = names(alloc, &["n1"])?;
-    change.left = names(alloc, &["n2", "n3"])?;
-    change.settings = names(alloc, &["k"])?;
+    fill_change(alloc, &mut change)?;
     Ok(change)
 }
 
 fn last_change(alloc: Global) -> Result<Change, OutOfMemory> {
+    let deleted = names(alloc, &["d"])?;
     let mut change = no_change(alloc);
-    change.deleted = names(alloc, &["d"])?;
+    change.deleted = deleted;
     Ok(change)
 }
 
-fn applies(alloc: Global) -> Result<Items<Apply>, OutOfMemory> {
-    let mut made = Items::new(alloc);
+fn put_applies(alloc: Global, made: &mut Items<Apply>) -> Result<(), OutOfMemory> {
     made.push(applied(1, 2, [1, 1, 1, 2], first_change(alloc)?))?;
     made.push(failed(2, 3))?;
     made.push(applied(2, 5, [6, 7, 8, 9], last_change(alloc)?))?;
-    Ok(made)
+    Ok(())
 }
 
 pub(crate) fn put_alias(
@@ -317,19 +324,41 @@ pub(crate) fn idle(alloc: Global, name: &str, first: u64) -> Result<NodeRec, Out
     })
 }
 
+fn fill_node(alloc: Global, node: &mut NodeRec) -> Result<(), OutOfMemory> {
+    for version in [2, 3, 5] {
+        node.handed.push(version)?;
+    }
+    put_applies(alloc, &mut node.applies)?;
+    fill_view(alloc, &mut node.view)
+}
+
 fn busy(alloc: Global) -> Result<NodeRec, OutOfMemory> {
     let mut node = idle(alloc, "n0", 1)?;
-    node.handed = Items::from_vec(vec![in alloc; 2, 3, 5]?);
-    node.applies = applies(alloc)?;
-    fill_view(alloc, &mut node.view)?;
+    fill_node(alloc, &mut node)?;
     Ok(node)
 }
 
-pub(crate) fn nodes(alloc: Global) -> Result<Items<NodeRec>, OutOfMemory> {
-    let mut made = Items::new(alloc);
+pub(crate) fn put_nodes(alloc: Global, made: &mut Items<NodeRec>) -> Result<(), OutOfMemory> {
     made.push(busy(alloc)?)?;
     made.push(idle(alloc, "n9", 0)?)?;
-    Ok(made)
+    Ok(())
+}
+
+fn index_of(alloc: Global, id: u64, aliases: &[&str]) -> Result<IndexMetadata, OutOfMemory> {
+    let mut set = NameSet::new(alloc);
+    for alias in aliases {
+        set.insert(Text::from_str(alloc, alias)?)?;
+    }
+    Ok(IndexMetadata {
+        id,
+        version: 1,
+        settings_version: 1,
+        aliases_version: 1,
+        opened: true,
+        shards: 1,
+        replicas: 1,
+        aliases: set,
+    })
 }
 
 pub(crate) fn put_index(
@@ -339,24 +368,9 @@ pub(crate) fn put_index(
     name: &str,
     aliases: &[&str],
 ) -> Result<(), OutOfMemory> {
-    let mut set = NameSet::new(alloc);
-    for alias in aliases {
-        set.insert(Text::from_str(alloc, alias)?)?;
-    }
-    let index = IndexMetadata {
-        id,
-        version: 1,
-        settings_version: 1,
-        aliases_version: 1,
-        opened: true,
-        shards: 1,
-        replicas: 1,
-        aliases: set,
-    };
-    state
-        .metadata
-        .indices
-        .set(Text::from_str(alloc, name)?, index)
+    let name = Text::from_str(alloc, name)?;
+    let index = index_of(alloc, id, aliases)?;
+    state.metadata.indices.set(name, index)
 }
 
 // The first state of the cluster "demo", whose one node is n0.
@@ -369,16 +383,14 @@ fn first(alloc: Global) -> Result<ClusterState, OutOfMemory> {
     ClusterState::first(alloc, &Text::from_str(alloc, "demo")?, &nodes)
 }
 
-fn last(alloc: Global) -> Result<ClusterState, OutOfMemory> {
-    let mut state = first(alloc)?;
-    put_index(alloc, &mut state, 1, "b", &["all", "one"])?;
-    put_index(alloc, &mut state, 2, "a", &["all"])?;
-    put_value(alloc, &mut state.metadata.settings, "k", "v")?;
-    Ok(state)
+fn fill_last(alloc: Global, state: &mut ClusterState) -> Result<(), OutOfMemory> {
+    put_index(alloc, state, 1, "b", &["all", "one"])?;
+    put_index(alloc, state, 2, "a", &["all"])?;
+    put_value(alloc, &mut state.metadata.settings, "k", "v")
 }
 
 fn empty(alloc: Global) -> Result<Session, OutOfMemory> {
-    let last = last(alloc)?;
+    let last = first(alloc)?;
     Ok(Session {
         batches: Items::new(alloc),
         replies: Items::new(alloc),
@@ -390,13 +402,24 @@ fn empty(alloc: Global) -> Result<Session, OutOfMemory> {
     })
 }
 
-pub(crate) fn good(alloc: Global) -> Result<Session, OutOfMemory> {
+fn fill(alloc: Global, made: &mut Session) -> Result<(), OutOfMemory> {
+    put_batches(alloc, &mut made.batches)?;
+    put_replies(&mut made.replies)?;
+    put_acks(&mut made.acks)?;
+    put_watches(&mut made.watches)?;
+    put_reads(alloc, &mut made.reads)?;
+    fill_last(alloc, &mut made.last)
+}
+
+// The session but for its nodes.
+pub(crate) fn without_nodes(alloc: Global) -> Result<Session, OutOfMemory> {
     let mut made = empty(alloc)?;
-    made.batches = batches(alloc)?;
-    made.replies = replies(alloc)?;
-    made.acks = acks(alloc)?;
-    made.watches = watches(alloc)?;
-    made.reads = reads(alloc)?;
-    made.nodes = nodes(alloc)?;
+    fill(alloc, &mut made)?;
+    Ok(made)
+}
+
+pub(crate) fn good(alloc: Global) -> Result<Session, OutOfMemory> {
+    let mut made = without_nodes(alloc)?;
+    put_nodes(alloc, &mut made.nodes)?;
     Ok(made)
 }
