@@ -1,6 +1,6 @@
 -- What a replay answers, and what it writes for the bytes that it reads: the report of the script's replayed session, or
 -- the line that refuses the script. What a source or a sink doesn't tell is left open.
-use Rattle.std.specs.Prelude.{◌≡◌, ℕ, ◌≤◌, ◌⊎◌, Bool, true, false, List, [], ◌++◌, Option, Some, IfSome, Result, Ok, Err, codes, length}
+use Rattle.std.specs.Prelude.{◌≡◌, ℕ, ◌≤◌, ◌⊎◌, Bool, true, false, List, [], ◌++◌, Option, Some, IfSome, IfOk, Result, Ok, Err, codes, length}
 use Rattle.std.specs.Io.KnownBytes.{Appends}
 use Rattle.edge_io.specs.Bytes.{AppendsPart, Takes, TakesAtMost}
 use Rattle.edge_io.specs.Causes.{Rose}
@@ -10,6 +10,7 @@ use Rattle.script_form.specs.Reading.{script_of}
 use Rattle.script_form.specs.Refusals.{refusal_text}
 use Rattle.session_law.specs.Reports.{report_of}
 use Rattle.master_run.specs.Replays.{replayed}
+use Rattle.master_run.specs.SerialSessions.{IsSerialSession}
 use Rattle.esmaster.specs.declared.answers.Answer.{Answer}
 use Rattle.esmaster.specs.declared.exits.Exit.{Exit}
 use Rattle.esmaster.specs.declared.exits.Exit.TheVariants.{Done, Usage, ScriptRefused, ReadFault, WriteFault, OutOfMemory, TooLong}
@@ -51,10 +52,16 @@ AnswersPart before now = IfSome before.left (λ input. WritesPart input before n
 abbrev pub IsUnwritten : Edges → Edges → Type 0
 IsUnwritten before now = now.held ≡ before.held
 
+-- the session that is reported is one of a kept book: its committed versions are 2, 3, 4, .. in order, and no task stands
+-- in two of its batches
+abbrev pub IsReportedInOrder : Result Script ScriptRefusal → Type 0
+IsReportedInOrder read = IfOk read (λ script. IsSerialSession script (replayed script))
+
 -- what each way to end tells
 pub record Ends (before now : Edges) (exit : Exit) : Type 0 where
   -- The whole script was read, and all that was written is the report of its replayed session.
   pub done : exit ≡ Done → AnswersWhole false before now
+  pub in_order : exit ≡ Done → IfSome before.left (λ input. IsReportedInOrder (script_of input))
   -- The whole script was read, and all that was written is the line that refuses it.
   pub script_refused : exit ≡ ScriptRefused → AnswersWhole true before now
   -- The input failed in this call.
