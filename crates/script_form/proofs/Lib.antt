@@ -2,6 +2,9 @@ mod Closing
 mod Depths
 mod Names
 mod Places
+mod ReadSteps
+mod ReadWhole
+mod Readings
 mod Submits
 mod Tallies
 mod Utf8

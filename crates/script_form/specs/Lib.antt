@@ -1,5 +1,6 @@
 pub mod Clients
 pub mod Faults
+pub mod Laws
 pub mod Misfits
 pub mod Naming
 pub mod Nodes

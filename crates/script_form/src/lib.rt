@@ -5,6 +5,7 @@ mod acks;
 mod built;
 mod clients;
 mod faults;
+mod laws;
 mod limits;
 mod list_readers;
 mod misfits;
@@ -20,6 +21,7 @@ mod tasks;
 mod turns;
 mod works;
 
+pub use laws::read_scripts_are_valid;
 pub use limits::LimitName;
 pub use reading::read_script;
 pub use refusals::ScriptRefusal;
