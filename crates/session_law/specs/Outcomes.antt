@@ -16,10 +16,6 @@ is_task client step entry = is_at client step entry.client entry.step
 abbrev pub holds : ℕ → ℕ → Batch → Bool
 holds client step batch = list_any (is_task client step) batch.entries
 
--- the batch that holds a task
-abbrev pub batch_of : List Batch → ℕ → ℕ → Option Batch
-batch_of batches client step = find (holds client step) batches
-
 -- the number of the batch that holds a task, where the first batch has the given number; 0 where none holds it
 abbrev pub number_from : ℕ → List Batch → ℕ → ℕ → ℕ
 number_from number [] client step = 0
@@ -29,11 +25,14 @@ number_from number (batch ∷ batches) client step =
 abbrev pub number_of : List Batch → ℕ → ℕ → ℕ
 number_of batches client step = number_from 1 batches client step
 
+-- the batch that holds a task, with what it was stepped to
+abbrev pub stepped_with : Script → List Batch → ℕ → ℕ → Option SteppedBatch
+stepped_with script batches client step = find (λ s. holds client step s.batch) (history_of script batches)
+
 -- the end of a task at its place in a batch
 abbrev pub end_in : ℕ → ℕ → SteppedBatch → Option TaskEnd
 end_in client step s = option_map (λ p. p.1) (find (λ p. is_task client step p.0) (zip s.batch.entries s.stepped.ends))
 
 -- none where no batch holds the task
 abbrev pub outcome_of : Script → List Batch → ℕ → ℕ → Option TaskEnd
-outcome_of script batches client step =
-    option_and_then (end_in client step) (find (λ s. holds client step s.batch) (history_of script batches))
+outcome_of script batches client step = option_and_then (end_in client step) (stepped_with script batches client step)

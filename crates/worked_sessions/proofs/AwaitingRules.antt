@@ -50,15 +50,7 @@ lawful = record {
 }
 
 good : IsGoodForm awaiting_session
-good = record {
-  queues = refl;
-  entries = refl;
-  order = order;
-  reads = refl;
-  nodes = refl;
-  nodes_distinct = refl;
-  last = record { cluster = refl; master = refl; nodes = refl; indices = refl; settings = refl };
-}
+good = assumption (order)
 
 pub awaiting_session_is_lawful : IsWorked awaiting_script awaiting_session
 awaiting_session_is_lawful = record { valid = awaiting_valid; lawful = lawful; good = good }

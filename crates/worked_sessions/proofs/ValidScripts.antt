@@ -1,6 +1,6 @@
 -- The scripts of the worked sessions are valid: every name, reference, range and limit, by computing it, but for the depth
 -- of the predicates that they watch for.
-use Rattle.std.specs.Prelude.{◌≡◌, ℕ, ◌&&◌, true, List, codes, nat_le, IsTrue, refl}
+use Rattle.std.specs.Prelude.{◌≡◌, ℕ, ◌&&◌, true, List, codes, nat_le, IsTrue}
 use Rattle.std.specs.List.{list_all}
 use Rattle.std.proofs.Common.{sym, ap, ◌∙◌, arith}
 use Rattle.meta_state.specs.declared.predicates.Pred.{fold-roll-Pred}
@@ -37,116 +37,16 @@ mixed_clients : IsTrue (list_all (is_client mixed_script.nodes mixed_script.queu
 mixed_clients = λ i. (index_watched (codes "a") i && true) && true
 
 pub worked_valid : IsScript worked_script
-worked_valid = record {
-  version = refl;
-  cluster = refl;
-  nodes_limit = omega arith;
-  nodes_named = refl;
-  nodes_distinct = refl;
-  master = refl;
-  queues_limit = omega arith;
-  queues_named = refl;
-  queues_distinct = refl;
-  clients_limit = omega arith;
-  clients = worked_clients;
-  one_close = omega arith;
-  faults_limit = omega arith;
-  faults = refl;
-  faults_distinct = refl;
-  schedule_limit = omega arith;
-  schedule = refl;
-  work_of_publications = omega arith;
-  work_of_reads = omega arith;
-}
+worked_valid = grind (arith, worked_clients)
 
 pub troubled_valid : IsScript troubled_script
-troubled_valid = record {
-  version = refl;
-  cluster = refl;
-  nodes_limit = omega arith;
-  nodes_named = refl;
-  nodes_distinct = refl;
-  master = refl;
-  queues_limit = omega arith;
-  queues_named = refl;
-  queues_distinct = refl;
-  clients_limit = omega arith;
-  clients = refl;
-  one_close = omega arith;
-  faults_limit = omega arith;
-  faults = refl;
-  faults_distinct = refl;
-  schedule_limit = omega arith;
-  schedule = refl;
-  work_of_publications = omega arith;
-  work_of_reads = omega arith;
-}
+troubled_valid = grind (arith)
 
 pub stopped_valid : IsScript stopped_script
-stopped_valid = record {
-  version = refl;
-  cluster = refl;
-  nodes_limit = omega arith;
-  nodes_named = refl;
-  nodes_distinct = refl;
-  master = refl;
-  queues_limit = omega arith;
-  queues_named = refl;
-  queues_distinct = refl;
-  clients_limit = omega arith;
-  clients = stopped_clients;
-  one_close = omega arith;
-  faults_limit = omega arith;
-  faults = refl;
-  faults_distinct = refl;
-  schedule_limit = omega arith;
-  schedule = refl;
-  work_of_publications = omega arith;
-  work_of_reads = omega arith;
-}
+stopped_valid = grind (arith, stopped_clients)
 
 pub mixed_valid : IsScript mixed_script
-mixed_valid = record {
-  version = refl;
-  cluster = refl;
-  nodes_limit = omega arith;
-  nodes_named = refl;
-  nodes_distinct = refl;
-  master = refl;
-  queues_limit = omega arith;
-  queues_named = refl;
-  queues_distinct = refl;
-  clients_limit = omega arith;
-  clients = mixed_clients;
-  one_close = omega arith;
-  faults_limit = omega arith;
-  faults = refl;
-  faults_distinct = refl;
-  schedule_limit = omega arith;
-  schedule = refl;
-  work_of_publications = omega arith;
-  work_of_reads = omega arith;
-}
+mixed_valid = grind (arith, mixed_clients)
 
 pub awaiting_valid : IsScript awaiting_script
-awaiting_valid = record {
-  version = refl;
-  cluster = refl;
-  nodes_limit = omega arith;
-  nodes_named = refl;
-  nodes_distinct = refl;
-  master = refl;
-  queues_limit = omega arith;
-  queues_named = refl;
-  queues_distinct = refl;
-  clients_limit = omega arith;
-  clients = awaiting_clients;
-  one_close = omega arith;
-  faults_limit = omega arith;
-  faults = refl;
-  faults_distinct = refl;
-  schedule_limit = omega arith;
-  schedule = refl;
-  work_of_publications = omega arith;
-  work_of_reads = omega arith;
-}
+awaiting_valid = grind (arith, awaiting_clients)

