@@ -270,13 +270,6 @@ fn judge_all(rt: &impl Abort, alloc: Global, rows: &[Row]) -> Result<(), OutOfMe
     Ok(())
 }
 
-#[test]
-fn a_session_of_good_form_has_something_of_every_kind(rt: HostRuntime) -> Result<(), Fail> {
-    let alloc = rt.alloc();
-    assert!(rt; is_good_form(alloc, &good(alloc)?)?);
-    Ok(())
-}
-
 const BATCHES: [Row; 13] = [
     // the queue of a batch has a name
     (What::Queue, "create", &[], &[50], true),

@@ -1,4 +1,4 @@
-use crate::whole_session::{good, idle, without_nodes};
+use crate::whole_session::{good, level};
 use plain_data::{OutOfMemory, Text};
 use session_law::{report_text, summary_text};
 use std::alloc::Global;
@@ -32,13 +32,13 @@ read 1.0 version 7 index id 4 closed shards 5 replicas 0
 read 1.1 version 0 missing
 read 1.2 version 8 value "a\"b\\c\n\u0001/"
 read 1.3 version 9 names -
+node n9 handed - applied 1
+view n9 {"aliases":{},"indices":{},"settings":{}}
 node n0 handed 2,3,5 applied 1,2,5
 apply n0 1>2 high 1 normal 1 low 1 listeners 2 created a,b deleted - changed c joined n1 left n2,n3 settings k
 apply n0 2>3 failed
 apply n0 2>5 high 6 normal 7 low 8 listeners 9 created - deleted d changed - joined - left - settings -
 view n0 {"aliases":{"all":["a","b"],"one":["a"]},"indices":{"a":1,"b":2},"settings":{"k":"v \"w\""}}
-node n9 handed - applied 0
-view n9 {"aliases":{},"indices":{},"settings":{}}
 state {"cluster":"demo","id":1,"master":"n0","metadata":{"created":0,"indices":{"a":{"aliases":["all"],"aliases_version":1,"id":2,"open":true,"replicas":1,"settings_version":1,"shards":1,"version":1},"b":{"aliases":["all","one"],"aliases_version":1,"id":1,"open":true,"replicas":1,"settings_version":1,"shards":1,"version":1}},"settings":{"k":"v"},"version":1},"nodes":{"n0":{"eligible":true}},"term":1,"version":1}
 "#;
 
@@ -56,12 +56,9 @@ fn summed(alloc: Global) -> Result<Text, OutOfMemory> {
     summary_text(alloc, &good(alloc)?)
 }
 
-// The summary where there is one node, which began with the last version.
+// The summary where the one node stands at the last version.
 fn summed_level(alloc: Global) -> Result<Text, OutOfMemory> {
-    let node = idle(alloc, "n0", 1)?;
-    let mut made = without_nodes(alloc)?;
-    made.nodes.push(node)?;
-    summary_text(alloc, &made)
+    summary_text(alloc, &level(alloc)?)
 }
 
 #[test]

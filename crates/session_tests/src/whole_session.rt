@@ -338,12 +338,6 @@ fn busy(alloc: Global) -> Result<NodeRec, OutOfMemory> {
     Ok(node)
 }
 
-pub(crate) fn put_nodes(alloc: Global, made: &mut Items<NodeRec>) -> Result<(), OutOfMemory> {
-    made.push(busy(alloc)?)?;
-    made.push(idle(alloc, "n9", 0)?)?;
-    Ok(())
-}
-
 fn index_of(alloc: Global, id: u64, aliases: &[&str]) -> Result<IndexMetadata, OutOfMemory> {
     let mut set = NameSet::new(alloc);
     for alias in aliases {
@@ -408,18 +402,20 @@ fn fill(alloc: Global, made: &mut Session) -> Result<(), OutOfMemory> {
     put_acks(&mut made.acks)?;
     put_watches(&mut made.watches)?;
     put_reads(alloc, &mut made.reads)?;
-    fill_last(alloc, &mut made.last)
+    fill_last(alloc, &mut made.last)?;
+    made.nodes.push(idle(alloc, "n9", 1)?)
 }
 
-// The session but for its nodes.
-pub(crate) fn without_nodes(alloc: Global) -> Result<Session, OutOfMemory> {
+// The session but for its busy node.
+pub(crate) fn level(alloc: Global) -> Result<Session, OutOfMemory> {
     let mut made = empty(alloc)?;
     fill(alloc, &mut made)?;
     Ok(made)
 }
 
 pub(crate) fn good(alloc: Global) -> Result<Session, OutOfMemory> {
-    let mut made = without_nodes(alloc)?;
-    put_nodes(alloc, &mut made.nodes)?;
+    let node = busy(alloc)?;
+    let mut made = level(alloc)?;
+    made.nodes.push(node)?;
     Ok(made)
 }
