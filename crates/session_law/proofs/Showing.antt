@@ -18,7 +18,7 @@ use Rattle.session_law.specs.declared.watches.WatchEnd.TheVariants as end
 use Rattle.session_law.specs.Laws.{AnswersAreFirstHits, AppliedWasHanded, IsFirstHit, IsFirstHitOf, IsPartOf, NoneHits}
 use Rattle.session_law.specs.NodeRecords.{Commit, commits_to, does_fail}
 use Rattle.session_law.specs.Watches as watched
-use Rattle.session_law.specs.Watches.{IsAnsweredBy, IsPart, IsPartEnd, IsPartWith, IsWatchPart, answer_of, final_place, is_hit_by, states_at}
+use Rattle.session_law.specs.Watches.{IsAnsweredBy, IsPart, IsPartEnd, IsPartWith, IsWatchPart, answered_version, final_place, is_hit_by, states_at}
 
 -- ---- watches
 
@@ -42,14 +42,14 @@ answer_hits states pred watch version earlier None e h = absurd h
 answer_hits states pred watch version earlier (Some state) e h = record { state = state; final = e; hits = h.0; earlier = earlier }
 
 end_hits : (script : Script) (states : List ClusterState) (step : Step) (pred : Pred) (watch : Watch) (end : WatchEnd)
-    → NoneHits states watch.place (final_place watch) watch.last pred → IsPartEnd script states step pred watch end → IsTrue (is_some (answer_of end))
+    → NoneHits states watch.place (final_place watch) watch.last pred → IsPartEnd script states step pred watch end → IsTrue (is_some (answered_version end))
     → IsFirstHit states watch pred
 end_hits script states step pred watch (end.Answered version) earlier h some = answer_hits states pred watch version earlier (slice_get states (final_place watch)) refl h
 end_hits script states step pred watch (end.Timeout deadline reading) earlier h some = absurd (true≢false (sym some))
 end_hits script states step pred watch (end.Closed client number) earlier h some = absurd (true≢false (sym some))
 
 part_first : (script : Script) (watches : List Watch) (states : List ClusterState) (step : Step) (pred : Pred) (watch : Watch)
-    → IsPart script watches states step pred watch → IsTrue (is_some (answer_of watch.end)) → IsFirstHit states watch pred
+    → IsPart script watches states step pred watch → IsTrue (is_some (answered_version watch.end)) → IsFirstHit states watch pred
 part_first script watches states step pred watch h some =
     let one = h.shown in
     end_hits script states step pred watch watch.end

@@ -23,9 +23,9 @@ use Rattle.session_law.specs.Outcomes.{outcome_of, stepped_with}
 use Rattle.session_law.specs.ScriptSteps.{is_at, numbered_steps}
 
 -- the acknowledgement that a step asks for
-abbrev pub ack_of : Option Step → Option Ack
-ack_of (Some (Submit queue task timeout ack)) = ack
-ack_of _ = None
+abbrev pub asked_ack : Option Step → Option Ack
+asked_ack (Some (Submit queue task timeout ack)) = ack
+asked_ack _ = None
 
 abbrev pub is_asked : Option (List (List ℕ)) → List ℕ → Bool
 is_asked None name = true
@@ -97,9 +97,9 @@ does_ask (Some asked) = true
 -- whether a step asks for an acknowledgement and its task succeeded
 abbrev pub is_acked_step : Script → List Batch → ℕ → ℕ → Bool
 is_acked_step script batches client step =
-    does_ask (ack_of (step_at script client step)) && is_success (outcome_of script batches client step)
+    does_ask (asked_ack (step_at script client step)) && is_success (outcome_of script batches client step)
 
 -- each step that asks, and whose task succeeded, has one acknowledgement, and there are no others
 pub record IsAcknowledged (script : Script) (batches : List Batch) (acks : List AckReply) : Type 0 where
-  pub answered : AllByRecursion (λ a. IsAckReply script batches a (ack_of (step_at script a.client a.step))) acks
+  pub answered : AllByRecursion (λ a. IsAckReply script batches a (asked_ack (step_at script a.client a.step))) acks
   pub once : AllByRecursion (λ s. is_acked_step script batches s.client s.number ≡ true → count_by (λ a. is_at s.client s.number a.client a.step) acks ≡ 1) (numbered_steps script)

@@ -1,7 +1,7 @@
--- One batch: what it does to the world, and how each of its tasks ends. That a task is refused while the master is out of
--- office, that a failed executor ends every task of its batch, that an unchanged state isn't published, and that a failed
--- publication ends every task, are Elasticsearch's rules (`MasterService`). The order in which the cases are tried, and
--- that a failed publication puts the master out of office until a reelect commits, are this project's own.
+-- One batch: what it does to the world, and how each of its tasks ends. That a task is refused while the master is out
+-- of office, that a failed executor ends every task of its batch, that an unchanged state isn't published, and that a
+-- failed publication ends every task, are Elasticsearch's rules (`MasterService`). The order in which the cases are
+-- tried, and that a failed publication puts the master out of office until a reelect commits, are this project's own.
 use Rattle.std.specs.Prelude.{ℕ, ◌+◌, Bool, false, not, ◌&&◌, ◌||◌, List, length, map, if◌then◌else◌}
 use Rattle.std.proofs.Common.{replicate}
 use Rattle.meta_state.specs.declared.cluster_state.ClusterState.{ClusterState}

@@ -21,7 +21,7 @@ use Rattle.session_law.specs.Histories.{IsSerial, after, history_of, step_at, st
 use Rattle.session_law.specs.NodeRecords.{applied_by, handed_to}
 use Rattle.session_law.specs.Outcomes.{holds}
 use Rattle.session_law.specs.Views.{views_of}
-use Rattle.session_law.specs.Watches.{IsWatched, answer_of, final_place, is_hit_by, pred_of, states_at}
+use Rattle.session_law.specs.Watches.{IsWatched, answered_version, final_place, is_hit_by, pred_of_part, states_at}
 
 -- ---- the committed versions of a book's batches are 2, 3, 4, .. in order
 
@@ -79,8 +79,8 @@ pub record IsFirstHit (states : List ClusterState) (watch : Watch) (pred : Pred)
 
 abbrev pub IsFirstHitOf : Script → List Batch → Watch → Type 0
 IsFirstHitOf script batches watch =
-    IsTrue (is_some (answer_of watch.end)) → (step : Step) (pred : Pred) →
-    step_at script watch.client watch.step ≡ Some step → pred_of step watch.part ≡ Some pred →
+    IsTrue (is_some (answered_version watch.end)) → (step : Step) (pred : Pred) →
+    step_at script watch.client watch.step ≡ Some step → pred_of_part step watch.part ≡ Some pred →
     IsFirstHit (states_at script batches watch.client watch.step) watch pred
 
 abbrev pub AnswersAreFirstHits : Type 0

@@ -22,8 +22,8 @@ number_from number [] client step = 0
 number_from number (batch ∷ batches) client step =
     if holds client step batch then number else number_from (number + 1) batches client step
 
-abbrev pub number_of : List Batch → ℕ → ℕ → ℕ
-number_of batches client step = number_from 1 batches client step
+abbrev pub batch_number_of : List Batch → ℕ → ℕ → ℕ
+batch_number_of batches client step = number_from 1 batches client step
 
 -- the batch that holds a task, with what it was stepped to
 abbrev pub stepped_with : Script → List Batch → ℕ → ℕ → Option SteppedBatch

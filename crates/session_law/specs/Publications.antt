@@ -1,7 +1,7 @@
 -- A publication of a new state, by filters and counts over the nodes. Those of the new state that can be reached accept
 -- it, by a diff or in full (Elasticsearch's `PublicationTransportHandler`). It commits where the master and more than
--- half of the eligible nodes accepted it, and ends there: this rule is the project's own. `cut name k` tells whether the
--- node of this name can't be reached at the k-th publication that is sent to it.
+-- half of the eligible nodes accepted it, and ends there: this rule is the project's own. `cut name k` tells whether
+-- the node of this name can't be reached at the k-th publication that is sent to it.
 use Rattle.std.specs.Prelude.{ℕ, ◌+◌, Bool, true, false, not, ◌&&◌, ◌==◌, List, [], ◌∷◌, Option, Some, None, filter, is_some, map, nat_lt, bytes_eq, count_by, if◌then◌else◌}
 use Rattle.std.specs.List.{list_any, zip}
 use Rattle.plain_data.specs.Pairs.{lookup}

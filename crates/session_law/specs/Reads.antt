@@ -16,14 +16,14 @@ use Rattle.session_law.specs.declared.replies.AckEnd.TheVariants as ack
 use Rattle.session_law.specs.declared.replies.AckReply.{AckReply}
 use Rattle.session_law.specs.declared.sessions.Session.{Session}
 use Rattle.session_law.specs.declared.watches.Watch.{Watch}
-use Rattle.session_law.specs.Acknowledgements.{ack_of, must_of}
+use Rattle.session_law.specs.Acknowledgements.{asked_ack, must_of}
 use Rattle.session_law.specs.Committed.{committed_at}
 use Rattle.session_law.specs.Histories.{step_at}
 use Rattle.session_law.specs.NodeRecords.{applied_by}
 use Rattle.session_law.specs.Outcomes.{outcome_of}
 use Rattle.session_law.specs.ScriptSteps.{is_at, node_at, numbered_steps, steps_before}
 use Rattle.session_law.specs.SerialHistories.{greatest}
-use Rattle.session_law.specs.Watches.{answer_of, is_of_step, last_part, states_at}
+use Rattle.session_law.specs.Watches.{answered_version, is_of_step, last_part, states_at}
 
 -- ---- what one step lets its client know of a node: versions
 
@@ -33,11 +33,11 @@ read_by session client step = map (λ r. r.version) (filter (λ r. is_at client 
 
 -- what answered a watch or next step at the node
 abbrev pub answers_of : Session → ℕ → ℕ → List ℕ
-answers_of session client step = filter_map (λ w. answer_of w.end) (filter (is_of_step client step) session.watches)
+answers_of session client step = filter_map (λ w. answered_version w.end) (filter (is_of_step client step) session.watches)
 
 abbrev pub is_answered : Option Watch → Bool
 is_answered None = false
-is_answered (Some watch) = is_some (answer_of watch.end)
+is_answered (Some watch) = is_some (answered_version watch.end)
 
 -- the same, for a step that is awaited: where its last part is answered
 abbrev pub awaited_answers_of : Session → ℕ → ℕ → List ℕ
@@ -59,7 +59,7 @@ is_must script session node version (Some asked) =
 -- the version that a task published, where the node is one of those that acknowledged it in full
 abbrev pub published_by : Script → Session → List ℕ → ℕ → ℕ → Option TaskEnd → List ℕ
 published_by script session node client step (Some (task.Ok version)) =
-    if is_full (find (λ a. is_at client step a.client a.step) session.acks) && is_must script session node version (ack_of (step_at script client step))
+    if is_full (find (λ a. is_at client step a.client a.step) session.acks) && is_must script session node version (asked_ack (step_at script client step))
     then version ∷ []
     else []
 published_by script session node client step _ = []

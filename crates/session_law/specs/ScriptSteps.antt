@@ -68,16 +68,16 @@ node_at script client number = unwrap_or (slice_get (nodes_after [] (client_step
 -- ---- the close step
 
 -- the script's close step: it has one at most
-abbrev pub close_of : Script → Option NumberedStep
-close_of script = find (λ s. is_close s.step) (numbered_steps script)
+abbrev pub close_step_of : Script → Option NumberedStep
+close_step_of script = find (λ s. is_close s.step) (numbered_steps script)
 
 -- whether the close step has these numbers
 abbrev pub is_close_at : Script → ℕ → ℕ → Bool
-is_close_at script client number = is_some_so (λ s. is_at client number s.client s.number) (close_of script)
+is_close_at script client number = is_some_so (λ s. is_at client number s.client s.number) (close_step_of script)
 
 -- whether a step stands after the close step, in the same client
 abbrev pub is_after_close : Script → ℕ → ℕ → Bool
-is_after_close script client number = is_some_so (λ s. (s.client == client) && nat_lt s.number number) (close_of script)
+is_after_close script client number = is_some_so (λ s. (s.client == client) && nat_lt s.number number) (close_step_of script)
 
 abbrev pub before_step : Script → Option NumberedStep → List NumberedStep
 before_step script None = []
@@ -85,4 +85,4 @@ before_step script (Some s) = steps_before script s.client s.number
 
 -- what the closing client did before it closed
 abbrev pub before_close : Script → List NumberedStep
-before_close script = before_step script (close_of script)
+before_close script = before_step script (close_step_of script)

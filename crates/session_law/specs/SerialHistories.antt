@@ -8,7 +8,7 @@ use Rattle.scripts.specs.declared.steps.Step.{Step}
 use Rattle.scripts.specs.declared.steps.Step.TheVariants.{Await}
 use Rattle.session_law.specs.declared.batches.Batch.{Batch}
 use Rattle.session_law.specs.Histories.{IsSerial, Queued, queued_of}
-use Rattle.session_law.specs.Outcomes.{number_of}
+use Rattle.session_law.specs.Outcomes.{batch_number_of}
 use Rattle.session_law.specs.ScriptSteps.{steps_before}
 
 abbrev pub greatest : List ℕ → ℕ
@@ -17,8 +17,8 @@ greatest (n ∷ ns) = max n (greatest ns)
 
 -- the number of the batch of the task that a step awaits, or whose acknowledgement it awaits
 abbrev pub awaited_batch : List Batch → ℕ → Step → ℕ
-awaited_batch batches client (Await step Task) = number_of batches client step
-awaited_batch batches client (Await step Ack) = number_of batches client step
+awaited_batch batches client (Await step Task) = batch_number_of batches client step
+awaited_batch batches client (Await step Ack) = batch_number_of batches client step
 awaited_batch batches client _ = 0
 
 -- the greatest number of a batch that holds a task which an earlier await step of the client names

@@ -32,10 +32,10 @@ is_hit_by last pred state = is_newer last state && is_met state pred
 -- ---- what a watch or next step asks
 
 -- the predicate of a part
-abbrev pub pred_of : Step → ℕ → Option Pred
-pred_of (step.Watch node pred thens timeout) part = slice_get (pred ∷ thens) part
-pred_of (step.Next watch pred thens timeout) part = slice_get (pred ∷ thens) part
-pred_of _ part = None
+abbrev pub pred_of_part : Step → ℕ → Option Pred
+pred_of_part (step.Watch node pred thens timeout) part = slice_get (pred ∷ thens) part
+pred_of_part (step.Next watch pred thens timeout) part = slice_get (pred ∷ thens) part
+pred_of_part _ part = None
 
 abbrev pub watch_timeout_of : Step → ℕ
 watch_timeout_of (step.Watch node pred thens timeout) = timeout
@@ -73,9 +73,9 @@ abbrev pub last_part : List Watch → ℕ → ℕ → Option Watch
 last_part watches client step = part_at watches client step (count_by (is_of_step client step) watches - 1)
 
 -- the version that answered a part
-abbrev pub answer_of : WatchEnd → Option ℕ
-answer_of (end.Answered version) = Some version
-answer_of _ = None
+abbrev pub answered_version : WatchEnd → Option ℕ
+answered_version (end.Answered version) = Some version
+answered_version _ = None
 
 abbrev pub has_timed_out : WatchEnd → Bool
 has_timed_out (end.Timeout deadline reading) = true
@@ -91,7 +91,7 @@ final_place watch = watch.place + watch.shown - 1
 abbrev pub IsBegunBy : Option Watch → Watch → Type 0
 IsBegunBy None watch = ⊥
 IsBegunBy (Some prev) watch =
-    IsTrue (is_some (answer_of prev.end)) × ((watch.last ≡ answer_of prev.end) × ((watch.place ≡ final_place prev) × (watch.at ≡ prev.at)))
+    IsTrue (is_some (answered_version prev.end)) × ((watch.last ≡ answered_version prev.end) × ((watch.place ≡ final_place prev) × (watch.at ≡ prev.at)))
 
 -- a next step begins at or past the final state shown to the last part of the step that it names
 abbrev pub IsBegunPast : List ClusterState → Option Watch → Watch → Type 0
@@ -143,7 +143,7 @@ IsPartWith script watches states step watch (Some pred) = IsPart script watches 
 
 abbrev pub IsPartOfStep : Script → List Watch → List ClusterState → Watch → Option Step → Type 0
 IsPartOfStep script watches states watch None = ⊥
-IsPartOfStep script watches states watch (Some step) = IsPartWith script watches states step watch (pred_of step watch.part)
+IsPartOfStep script watches states watch (Some step) = IsPartWith script watches states step watch (pred_of_part step watch.part)
 
 -- the states that the node of a step has, one after the other
 abbrev pub states_at : Script → List Batch → ℕ → ℕ → List ClusterState
@@ -160,11 +160,11 @@ has_part watches client step part = is_some (part_at watches client step part)
 
 -- whether a step has a predicate for a part
 abbrev pub has_pred : ℕ → Step → Bool
-has_pred part step = is_some (pred_of step part)
+has_pred part step = is_some (pred_of_part step part)
 
 -- whether a part is answered and a predicate is left behind it
 abbrev pub goes_on : Script → Watch → Bool
-goes_on script watch = is_some (answer_of watch.end) && is_some_so (has_pred (watch.part + 1)) (step_at script watch.client watch.step)
+goes_on script watch = is_some (answered_version watch.end) && is_some_so (has_pred (watch.part + 1)) (step_at script watch.client watch.step)
 
 -- the parts of all watch and next steps: each step has part 0, and after an answered part the next one, while predicates
 -- are left; there are no others, and none stands twice

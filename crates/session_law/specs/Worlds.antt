@@ -9,13 +9,13 @@ use Rattle.scripts.specs.declared.whole_script.ScriptNode.{ScriptNode}
 use Rattle.session_law.specs.declared.worlds.NodeWorld.{NodeWorld}
 use Rattle.session_law.specs.declared.worlds.World.{World}
 
-abbrev pub node_of : ScriptNode → NodeInfo
-node_of node = record { name = node.name; eligible = node.eligible }
+abbrev pub node_info_of : ScriptNode → NodeInfo
+node_info_of node = record { name = node.name; eligible = node.eligible }
 
 -- the nodes of the first state, in the script's order
 abbrev pub members_of : List ScriptNode → List NodeInfo
 members_of [] = []
-members_of (node ∷ nodes) = if node.member then node_of node ∷ members_of nodes else members_of nodes
+members_of (node ∷ nodes) = if node.member then node_info_of node ∷ members_of nodes else members_of nodes
 
 -- the state in which a script begins
 abbrev pub first_state_of : Script → ClusterState
