@@ -3,6 +3,10 @@
 //! memory doesn't answer that memory is wanting, what is printed, and what holds against values from outside.
 #![tactic(auto)]
 
+mod indices;
+
+pub use indices::open_index;
+
 #[cfg(test)]
 mod edge_calls;
 #[cfg(test)]

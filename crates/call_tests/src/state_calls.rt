@@ -1,3 +1,4 @@
+use crate::open_index;
 use meta_state::{
     ClusterState, Found, IndexMetadata, IndexTable, Look, NodeInfo, Pred, check_index_name, lookup,
     to_json,
@@ -128,16 +129,7 @@ pub(crate) fn index_with(
     id: u64,
     aliases: &[&str],
 ) -> Result<IndexMetadata, OutOfMemory> {
-    Ok(IndexMetadata {
-        id,
-        version: 1,
-        settings_version: 1,
-        aliases_version: 1,
-        opened: true,
-        shards: 1,
-        replicas: 1,
-        aliases: set_of(alloc, aliases)?,
-    })
+    Ok(open_index(id, set_of(alloc, aliases)?))
 }
 
 // An index whose numbers all differ, with two aliases.

@@ -1,5 +1,6 @@
+use crate::entry;
 use crate::whole_session::{
-    applied, batch, entry, failed, good, idle, names, no_change, put_alias, put_id, put_index,
+    applied, batch, failed, good, idle, names, no_change, put_alias, put_id, put_index,
     put_read, put_value,
 };
 use meta_state::{ClusterState, Found, NodeInfo};

@@ -3,6 +3,10 @@
 //! alone.
 #![tactic(auto)]
 
+mod entries;
+
+pub use entries::entry;
+
 #[cfg(test)]
 mod form_calls;
 #[cfg(test)]

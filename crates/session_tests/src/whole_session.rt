@@ -1,3 +1,4 @@
+use crate::entry;
 use executors::TaskRefusal;
 use meta_state::{ClusterState, Found, IndexMetadata, NodeInfo};
 use plain_data::{Items, Map, NameSet, OutOfMemory, Text};
@@ -9,10 +10,6 @@ use std::alloc::Global;
 
 // A session of good form with something of every kind in it. What is filled is behind a `&mut`, since a value that may
 // have to be dropped costs proof at each exit.
-
-pub(crate) fn entry(client: u32, step: u32, seen: u32) -> Entry {
-    Entry { client, step, seen }
-}
 
 pub(crate) fn batch(
     alloc: Global,
