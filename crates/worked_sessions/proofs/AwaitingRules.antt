@@ -5,7 +5,7 @@ use Rattle.executors.specs.Executions.{executed, folded}
 use Rattle.executors.specs.TaskRuns.{task_outcome}
 use Rattle.worked_sessions.proofs.Computing.{met_index, never}
 use Rattle.worked_sessions.proofs.ValidScripts.{awaiting_valid}
-use Rattle.worked_sessions.specs.Awaiting.{awaiting_script, awaiting_session, closing_an_awaited_task, closing_an_awaited_watch}
+use Rattle.worked_sessions.specs.Awaiting.{awaiting_script, awaiting_session}
 use Rattle.session_law.specs.Changes.{change_between}
 use Rattle.report_law.specs.GoodForm.{IsGoodForm}
 use Rattle.session_law.specs.Lawful.{IsLawful}
@@ -26,13 +26,10 @@ good = grind arith
 pub awaiting_session_is_lawful : IsWorked awaiting_script awaiting_session
 awaiting_session_is_lawful = record { valid = awaiting_valid; lawful = lawful; good = good }
 
--- ---- what is changed breaks a rule
-
-closes_an_awaited_task : ¬ IsLawful awaiting_script closing_an_awaited_task
-closes_an_awaited_task h = never (sym h.ended.ended.0.end.1)
-
-closes_an_awaited_watch : ¬ IsLawful awaiting_script closing_an_awaited_watch
-closes_an_awaited_watch h = never (sym h.watched.parts.0.ends.1)
+-- ---- what is changed breaks the rule that is looked at
 
 pub changed_awaiting_sessions_are_unlawful : AreAwaitingUnlawful
-changed_awaiting_sessions_are_unlawful = record { task = closes_an_awaited_task; watch = closes_an_awaited_watch }
+changed_awaiting_sessions_are_unlawful = record {
+  task = λ h. never (sym h.ended.ended.0.end.1);
+  watch = λ h. never (sym h.watched.parts.0.ends.1);
+}

@@ -18,7 +18,7 @@ use Rattle.session_law.specs.NodeRecords.{node_record}
 use Rattle.session_law.specs.Publications.{reach_of}
 use Rattle.session_law.specs.BatchSteps.{batch_step}
 use Rattle.session_law.specs.Views.{views_of}
-use Rattle.worked_sessions.specs.Worked.{answering_early, beginning_early, failing_the_ack, leaving_a_node, leaving_a_task, leaving_the_ack, one_task, reading_the_first_state, seeing_nothing, skipping_a_version, turning_the_replies, worked_script, worked_session}
+use Rattle.worked_sessions.specs.Worked.{one_task, worked_script, worked_session}
 use Rattle.session_law.specs.Worlds.{first_world}
 
 lawful : IsLawful worked_script worked_session
@@ -31,56 +31,19 @@ good = grind arith
 pub worked_session_is_lawful : IsWorked worked_script worked_session
 worked_session_is_lawful = record { valid = worked_valid; lawful = lawful; good = good }
 
--- ---- what is changed breaks a rule
-
-skips : ¬ IsLawful worked_script skipping_a_version
-unfolding first_world batch_step reach_of executed folded task_outcome
-skips h = unequal 4 3 refl (ap (λ (r : BatchResult). unwrap_or (published_version r) 0) h.serial.serial.results.1.0)
-
-sees_nothing : ¬ IsLawful worked_script seeing_nothing
-unfolding first_world batch_step reach_of executed folded task_outcome
-sees_nothing h = unequal 0 1 refl h.serial.seen.1.0
-
-leaves_a_task : ¬ IsLawful worked_script leaving_a_task
-leaves_a_task h = unequal 0 1 refl (h.ended.once.1.1.0 refl)
-
-leaves_the_ack : ¬ IsLawful worked_script leaving_the_ack
-unfolding first_world batch_step reach_of executed folded task_outcome
-leaves_the_ack h = unequal 0 1 refl (h.acknowledged.once.0 refl)
-
-fails_the_ack : ¬ IsLawful worked_script failing_the_ack
-unfolding first_world batch_step reach_of executed folded task_outcome
-fails_the_ack h = unequal 1 0 refl h.acknowledged.answered.0.0
-
-answers_early : ¬ IsLawful worked_script answering_early
-unfolding first_world batch_step reach_of executed folded task_outcome
-answers_early h =
-    never (sym (met_index (world_after worked_script (one_task 0 0 2 ∷ [])).state (codes "b")) ∙ h.watched.parts.1.0.ends.0)
-
-reads_the_first_state : ¬ IsLawful worked_script reading_the_first_state
-unfolding first_world batch_step reach_of executed folded task_outcome
-reads_the_first_state h = beyond 2 1 refl h.read.found.0.1.0
-
-begins_early : ¬ IsLawful worked_script beginning_early
-unfolding first_world batch_step reach_of executed folded task_outcome
-begins_early h = beyond 3 1 refl (h.placed.0 refl)
-
-leaves_a_node : ¬ IsLawful worked_script leaving_a_node
-leaves_a_node h = unequal 0 1 refl (ap (λ (records : List NodeRec). length records) h.recorded.each.1.0)
-
-turns_the_replies : ¬ IsLawful worked_script turning_the_replies
-turns_the_replies h = never h.final.order.replies
+-- ---- what is changed breaks the rule that is looked at
 
 pub changed_sessions_are_unlawful : AreUnlawful
+unfolding first_world batch_step reach_of executed folded task_outcome
 changed_sessions_are_unlawful = record {
-  version = skips;
-  seen = sees_nothing;
-  task = leaves_a_task;
-  acknowledgement = leaves_the_ack;
-  failure = fails_the_ack;
-  answer = answers_early;
-  read = reads_the_first_state;
-  place = begins_early;
-  node = leaves_a_node;
-  order = turns_the_replies;
+  version = λ h. unequal 4 3 refl (ap (λ (r : BatchResult). unwrap_or (published_version r) 0) h.serial.serial.results.1.0);
+  seen = λ h. unequal 0 1 refl h.serial.seen.1.0;
+  task = λ h. unequal 0 1 refl (h.ended.once.1.1.0 refl);
+  acknowledgement = λ h. unequal 0 1 refl (h.acknowledged.once.0 refl);
+  failure = λ h. unequal 1 0 refl h.acknowledged.answered.0.0;
+  answer = λ h. never (sym (met_index (world_after worked_script (one_task 0 0 2 ∷ [])).state (codes "b")) ∙ h.watched.parts.1.0.ends.0);
+  read = λ h. beyond 2 1 refl h.read.found.0.1.0;
+  place = λ h. beyond 3 1 refl (h.placed.0 refl);
+  node = λ h. unequal 0 1 refl (ap (λ (records : List NodeRec). length records) h.recorded.each.1.0);
+  order = λ h. never h.final.order.replies;
 }

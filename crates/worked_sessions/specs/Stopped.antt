@@ -27,7 +27,7 @@ use Rattle.session_law.specs.declared.watches.Watch.{Watch}
 use Rattle.session_law.specs.declared.watches.WatchEnd.{WatchEnd}
 use Rattle.session_law.specs.declared.watches.WatchEnd.TheVariants as watch
 use Rattle.worked_sessions.specs.Troubled.{batch_of_one, told}
-use Rattle.worked_sessions.specs.Worked.{creating, made_index, making, member, plain_node}
+use Rattle.worked_sessions.specs.Worked.{creating, made_index, making, member, worked_state}
 
 -- ---- the script
 
@@ -138,13 +138,7 @@ set_node name = record {
 }
 
 abbrev pub set_state : ClusterState
-set_state = record {
-  cluster = codes "demo";
-  id = 3;
-  term = 1;
-  version = 3;
-  master = codes "n0";
-  nodes = (codes "n0", plain_node (codes "n0")) ∷ (codes "n1", plain_node (codes "n1")) ∷ [];
+set_state = record worked_state {
   metadata = record {
     version = 3;
     created = 1;
