@@ -11,7 +11,7 @@ use Rattle.scripts.specs.declared.whole_script.ScriptNode.{ScriptNode}
 use Rattle.scripts.specs.declared.queues.QueueSpec.{QueueSpec}
 use Rattle.scripts.specs.declared.steps.Step.{Step}
 use Rattle.scripts.specs.Scripts.{is_close}
-use Rattle.scripts.specs.Steps.{are_steps, is_step}
+use Rattle.scripts.specs.ValidSteps.{are_steps, is_step}
 use Rattle.script_form.specs.Clients.{AreClients, AreSteps, closes, do_close, one_if_so}
 
 are_steps_after : (nodes : List ScriptNode) (queues : List QueueSpec) (before steps : List Step) (next : Step) → are_steps nodes queues before steps ≡ true → is_step nodes queues (before ++ steps) next ≡ true → are_steps nodes queues before (steps ++ next ∷ []) ≡ true

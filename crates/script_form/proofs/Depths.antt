@@ -5,7 +5,7 @@ use Rattle.std.specs.List.{list_all}
 use Rattle.std.proofs.lemmas.Grind.{common_steps}
 use Rattle.meta_state.specs.declared.predicates.Pred.{Pred}
 use Rattle.serde_json.specs.Data.{Data}
-use Rattle.scripts.specs.Steps.{deepest, depth_of, is_pred}
+use Rattle.scripts.specs.ValidSteps.{deepest, depth_of, is_pred}
 use Rattle.script_form.specs.declared.limits.LimitName.TheVariants.{Depth}
 use Rattle.script_form.specs.Misfits.{◌>>=◌, over, at_member, within}
 use Rattle.script_form.specs.Predicates.{choice_of, pred_by, pred_of}

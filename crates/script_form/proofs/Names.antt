@@ -9,7 +9,7 @@ use Rattle.std.proofs.lemmas.List.Folds.{list_all-append}
 use Rattle.scripts.specs.declared.whole_script.ScriptNode.{ScriptNode}
 use Rattle.scripts.specs.Names.{are_distinct}
 use Rattle.scripts.specs.Scripts.{has_master}
-use Rattle.scripts.specs.Steps.{are_asked, is_node_among, is_node_so}
+use Rattle.scripts.specs.ValidSteps.{are_asked, is_node_among, is_node_so}
 use Rattle.script_form.specs.Naming.{AreNamed, IsNewTo}
 use Rattle.script_form.specs.Nodes.{AreLed, find_node, is_fit_first, is_led, node_name}
 

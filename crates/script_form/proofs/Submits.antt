@@ -9,7 +9,7 @@ use Rattle.scripts.specs.declared.whole_script.ScriptNode.{ScriptNode}
 use Rattle.scripts.specs.declared.steps.Ack.{Ack}
 use Rattle.scripts.specs.declared.steps.Step.TheVariants as step
 use Rattle.executors.specs.declared.tasks.Task.{Task}
-use Rattle.scripts.specs.Steps.{is_ack, is_if_some, is_queue_for, is_step, is_task_for, is_time, is_positive_time}
+use Rattle.scripts.specs.ValidSteps.{is_ack, is_if_some, is_queue_for, is_step, is_task_for, is_time, is_positive_time}
 use Rattle.script_form.specs.Queues.{kind_at}
 use Rattle.script_form.specs.Steps.{none_if_zero}
 

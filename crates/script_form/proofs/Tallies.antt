@@ -8,7 +8,7 @@ use Rattle.std.proofs.lemmas.Grind.{common_steps}
 use Rattle.scripts.specs.declared.whole_script.ScriptNode.{ScriptNode}
 use Rattle.scripts.specs.declared.queues.QueueSpec.{QueueSpec}
 use Rattle.scripts.specs.declared.steps.Step.{Step}
-use Rattle.scripts.specs.Steps.{is_client}
+use Rattle.scripts.specs.ValidSteps.{is_client}
 
 count_append : (test : Step → Bool) (steps more : List Step) → count_by test (steps ++ more) ≡ count_by test steps + count_by test more
 count_append test [] more = grind (arith, common_steps)

@@ -8,7 +8,7 @@ use Rattle.scripts.specs.declared.queues.QueueSpec.{QueueSpec}
 use Rattle.scripts.specs.declared.whole_script.ScriptNode.{ScriptNode}
 use Rattle.scripts.specs.declared.steps.Step.{Step}
 use Rattle.scripts.specs.Scripts.{is_close}
-use Rattle.scripts.specs.Steps.{are_steps, is_client}
+use Rattle.scripts.specs.ValidSteps.{are_steps, is_client}
 use Rattle.script_form.specs.declared.limits.LimitName.TheVariants.{Steps, Clients}
 use Rattle.script_form.specs.declared.misfits.Misfit.{Misfit}
 use Rattle.script_form.specs.declared.rules.Rule.TheVariants.{Close}

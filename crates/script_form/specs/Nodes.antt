@@ -4,7 +4,7 @@ use Rattle.std.specs.Prelude.{ℕ, ◌≤◌, Bool, true, ◌&&◌, List, [], �
 use Rattle.serde_json.specs.Data.{Data}
 use Rattle.scripts.specs.declared.whole_script.ScriptNode.{ScriptNode}
 use Rattle.scripts.specs.Scripts.{has_master}
-use Rattle.scripts.specs.Steps.{is_node_among}
+use Rattle.scripts.specs.ValidSteps.{is_node_among}
 use Rattle.script_form.specs.Naming.{AreNamed}
 use Rattle.script_form.specs.declared.limits.LimitName.TheVariants.{Nodes}
 use Rattle.script_form.specs.declared.misfits.Misfit.{Misfit}

@@ -7,7 +7,7 @@ use Rattle.serde_json.specs.Data.{Data, Items, no_items, item, Members, no_membe
 use Rattle.serde_json.specs.Find.{get, as_bool, as_str, as_array, as_object, as_number, as_u64}
 use Rattle.serde_json.specs.Read.{read}
 use Rattle.scripts.specs.Names.{is_name}
-use Rattle.scripts.specs.Steps.{is_time, is_positive_time}
+use Rattle.scripts.specs.ValidSteps.{is_time, is_positive_time}
 use Rattle.script_form.specs.declared.limits.LimitName.{LimitName}
 use Rattle.script_form.specs.declared.misfits.Misfit.{Misfit}
 use Rattle.script_form.specs.declared.rules.Rule.TheVariants.{WrongType, Unknown, Missing, Range, Name, Value}

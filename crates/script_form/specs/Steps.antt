@@ -14,7 +14,7 @@ use Rattle.scripts.specs.declared.steps.Goal.TheVariants as goal
 use Rattle.scripts.specs.declared.steps.Step.{Step}
 use Rattle.scripts.specs.declared.steps.Step.TheVariants as step
 use Rattle.executors.specs.Kinds.{form_of}
-use Rattle.scripts.specs.Steps.{is_goal}
+use Rattle.scripts.specs.ValidSteps.{is_goal}
 use Rattle.script_form.specs.declared.misfits.Misfit.{Misfit}
 use Rattle.script_form.specs.declared.rules.Rule.TheVariants.{WrongType, Missing, Value, Reference, Twice}
 use Rattle.script_form.specs.Misfits.{◌>>=◌, bad, if_so, at_member, within}

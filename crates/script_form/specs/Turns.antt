@@ -6,7 +6,7 @@ use Rattle.serde_json.specs.Data.{Data}
 use Rattle.scripts.specs.declared.whole_script.ScriptNode.{ScriptNode}
 use Rattle.scripts.specs.declared.whole_script.ScriptTurn.{ScriptTurn}
 use Rattle.scripts.specs.declared.whole_script.ScriptTurn.TheVariants as turn
-use Rattle.scripts.specs.Steps.{is_between}
+use Rattle.scripts.specs.ValidSteps.{is_between}
 use Rattle.script_form.specs.declared.limits.LimitName.TheVariants.{Schedule}
 use Rattle.script_form.specs.declared.misfits.Misfit.{Misfit}
 use Rattle.script_form.specs.declared.rules.Rule.TheVariants.{Value, Reference}

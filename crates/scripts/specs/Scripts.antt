@@ -11,7 +11,7 @@ use Rattle.scripts.specs.declared.whole_script.ScriptTurn.TheVariants as turn
 use Rattle.scripts.specs.declared.steps.Step.{Step}
 use Rattle.scripts.specs.declared.steps.Step.TheVariants as step
 use Rattle.scripts.specs.Names.{are_distinct, is_name}
-use Rattle.scripts.specs.Steps.{is_between, is_client, is_node_among}
+use Rattle.scripts.specs.ValidSteps.{is_between, is_client, is_node_among}
 
 -- ---- faults and turns
 
