@@ -28,6 +28,3 @@ pub use sources::Source;
 pub use standard_clocks::MillisClock;
 pub use standard_sinks::StdSink;
 pub use standard_sources::StdSource;
-
-#[cfg(test)]
-mod tests;

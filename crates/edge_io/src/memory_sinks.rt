@@ -3,8 +3,9 @@ use plain_data::OutOfMemory;
 use std::alloc::Global;
 use std::marker::Model;
 
-/// A sink in memory with a fixed room, which tells its bytes. It fails the writes whose numbers, from 0, are listed,
-/// and each one that finds no room. A piece that fits only in part is taken in part.
+/// A sink in memory with a fixed room, which tells its bytes. It fails the writes whose numbers, from 0, are listed.
+/// A piece past its room is a counted fault where nothing of it fits, and otherwise a short write: what fits is taken
+/// and told, and it is the write of the rest that fails.
 #[derive(Debug, Drop)]
 pub struct MemSink {
     bytes: Vec<u8>,

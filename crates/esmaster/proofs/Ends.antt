@@ -1,25 +1,31 @@
 -- Which answers a replay can't give: what each answer's own cause rules out.
-use Rattle.std.specs.Prelude.{◌≡◌, ℕ, ◌+◌, ◌<◌, ◌≤◌, ◌⊎◌, Bool, true, false, List, [], ◌∷◌, ◌++◌, Option, Some, None, Result, Ok, Err, IfSome, codes, length, take, refl}
+use Rattle.std.specs.Prelude.{◌≡◌, ℕ, ◌+◌, ◌<◌, ◌≤◌, true, false, List, ◌++◌, Option, Some, None, Result, Ok, Err, IfSome, codes, length, take, refl}
 use Rattle.std.proofs.Common.{sym, ◌∙◌, ap, subst, arith, inl, inr}
 use Rattle.std.proofs.Math.Bool.{true≢false}
 use Rattle.std.proofs.lemmas.List.{length-append, length-take}
-use Rattle.std.specs.Io.KnownBytes.{Appends, Consumes}
+use Rattle.std.specs.Io.KnownBytes.{Consumes}
 use Rattle.edge_io.specs.Bytes.{AppendsPart, Takes}
-use Rattle.edge_io.specs.Causes.{Rose}
 use Rattle.scripts.specs.declared.whole_script.Script.{Script}
 use Rattle.script_form.specs.declared.refusals.ScriptRefusal.{ScriptRefusal}
 use Rattle.script_form.specs.Reading.{script_of}
 use Rattle.script_form.specs.Refusals.{refusal_text}
-use Rattle.esmaster.specs.declared.answers.Answer.{Answer}
 use Rattle.esmaster.specs.declared.exits.Exit.{Exit}
 use Rattle.esmaster.specs.declared.exits.Exit.TheVariants.{Done, Usage, ScriptRefused, ReadFault, WriteFault, OutOfMemory, TooLong}
-use Rattle.esmaster.specs.Answers.{AnswersPart, AnswersWhole, IsComplete, IsRefusedExactly, answer_of, refusal_line}
+use Rattle.esmaster.specs.Answers.{Edges, Ends, IsComplete, IsRefusedExactly, Replays, WritesAnswer, WritesPart, answer_of}
 
 some_same : {A : Type 0} (a b : A) → Some a ≡ Some b → a ≡ b
 some_same a b e = cc
 
 none_some : {A : Type 0} (a : A) → None ≡ Some a → ⊥
 none_some a e = cc
+
+if_some : (P : List ℕ → Type 0) (o : Option (List ℕ)) → ((a : List ℕ) → o ≡ Some a → P a) → IfSome o P
+if_some P None f = tt
+if_some P (Some a) f = f a refl
+
+of_some : (P : List ℕ → Type 0) (o : Option (List ℕ)) (a : List ℕ) → o ≡ Some a → IfSome o P → P a
+of_some P None a e p = absurd (none_some a e)
+of_some P (Some b) a e p = subst P (some_same b a e) p
 
 -- ---- an accepted script
 
@@ -35,29 +41,16 @@ too_much : (input : List ℕ) (left : Option (List ℕ)) (bytes : List ℕ) → 
 too_much input None bytes c n short = c
 too_much input (Some rest) bytes c n short = let e = ap (λ (l : List ℕ). length l) c in let l = longer bytes rest in omega arith
 
-complete_done : (left : Option (List ℕ)) (r s w x : ℕ) → IsComplete left r s w x Done
-complete_done None r s w x = tt
-complete_done (Some input) r s w x = λ script e short calm quiet. inl refl
-
-complete_memory : (left : Option (List ℕ)) (r s w x : ℕ) → IsComplete left r s w x OutOfMemory
-complete_memory None r s w x = tt
-complete_memory (Some input) r s w x = λ script e short calm quiet. inr refl
-
-complete_read : (left : Option (List ℕ)) (r s w x : ℕ) → Rose r s → IsComplete left r s w x ReadFault
-complete_read None r s w x rose = tt
-complete_read (Some input) r s w x rose = λ script e short calm quiet. absurd (calm rose)
-
-complete_write : (left : Option (List ℕ)) (r s w x : ℕ) → Rose w x → IsComplete left r s w x WriteFault
-complete_write None r s w x rose = tt
-complete_write (Some input) r s w x rose = λ script e short calm quiet. absurd (quiet rose)
-
-complete_long : (left now : Option (List ℕ)) (r s w x : ℕ) → Takes left now 16777217 → IsComplete left r s w x TooLong
-complete_long None now r s w x takes = tt
-complete_long (Some input) now r s w x takes = λ script e short calm quiet. absurd (too_much input now takes.0 takes.1 takes.2 short)
-
-complete_refused : (left now before held : Option (List ℕ)) (r s w x : ℕ) → AnswersWhole true left now before held → IsComplete left r s w x ScriptRefused
-complete_refused None now before held r s w x answers = tt
-complete_refused (Some input) now before held r s w x answers = λ script e short calm quiet. absurd (accepted_unrefused (script_of input) script e answers.kind)
+complete_of : (input : List ℕ) (before now : Edges) (exit : Exit) → Ends before now exit → before.left ≡ Some input → IsComplete input before now exit
+complete_of input before now Done ends e = λ script reads short calm quiet. inl refl
+complete_of input before now OutOfMemory ends e = λ script reads short calm quiet. inr refl
+complete_of input before now Usage ends e = absurd (ends.no_usage refl)
+complete_of input before now ReadFault ends e = λ script reads short calm quiet. absurd (calm (ends.read_fault refl).0)
+complete_of input before now WriteFault ends e = λ script reads short calm quiet. absurd (quiet (ends.write_fault refl).0)
+complete_of input before now TooLong ends e = λ script reads short calm quiet.
+    let takes = subst (λ l. Takes l now.left 16777217) e (ends.too_long refl).0 in absurd (too_much input now.left takes.0 takes.1 takes.2 short)
+complete_of input before now ScriptRefused ends e = λ script reads short calm quiet.
+    absurd (accepted_unrefused (script_of input) script reads (of_some (λ i. WritesAnswer true i before now) before.left input e (ends.script_refused refl)).kind)
 
 -- ---- a refused script
 
@@ -68,22 +61,6 @@ some_text (Err refusal) h = let l = longer (codes "refused ") (refusal_text refu
 
 same_length : (held text : List ℕ) → held ≡ held ++ text → 0 < length text → ⊥
 same_length held text e some = let n = ap (λ (l : List ℕ). length l) e in let l = longer held text in omega arith
-
-refused_unwritten : (left now before held : Option (List ℕ)) (exit : Exit) → held ≡ before → IsRefusedExactly left now before held exit
-refused_unwritten None now before held exit same = tt
-refused_unwritten (Some input) now None held exit same = tt
-refused_unwritten (Some input) now (Some old) held exit same =
-    λ end refused written. absurd (same_length old (answer_of (script_of input)).text (some_same _ _ (sym same ∙ written)) (some_text (script_of input) refused))
-
-refused_done : (left now before held : Option (List ℕ)) → AnswersWhole false left now before held → IsRefusedExactly left now before held Done
-refused_done None now before held answers = tt
-refused_done (Some input) now None held answers = tt
-refused_done (Some input) now (Some old) held answers = λ end refused written. absurd (true≢false (sym refused ∙ answers.kind))
-
-refused_refused : (left now before held : Option (List ℕ)) → IsRefusedExactly left now before held ScriptRefused
-refused_refused None now before held = tt
-refused_refused (Some input) now None held = tt
-refused_refused (Some input) now (Some old) held = λ end refused written. refl
 
 shorter : (old text : List ℕ) (held : Option (List ℕ)) → AppendsPart (Some old) held text → held ≡ Some (old ++ text) → ⊥
 shorter old text None part e = none_some _ e
@@ -96,40 +73,28 @@ shorter old text (Some now) part e =
     let t = length-take part.0 text in
     omega arith
 
-refused_part : (left now before held : Option (List ℕ)) → AnswersPart left now before held → IsRefusedExactly left now before held WriteFault
-refused_part None now before held answers = tt
-refused_part (Some input) now None held answers = tt
-refused_part (Some input) now (Some old) held answers = λ end refused written. absurd (shorter old (answer_of (script_of input)).text held answers.written written)
+unwritten : (input held : List ℕ) (before now : Edges) (exit : Exit) → before.held ≡ Some held → now.held ≡ before.held → IsRefusedExactly input held now exit
+unwritten input held before now exit h same = λ end refused written.
+    absurd (same_length held (answer_of (script_of input)).text (some_same _ _ (sym h ∙ (sym same ∙ written))) (some_text (script_of input) refused))
 
--- ---- from what each answer tells
+refused_of : (input held : List ℕ) (before now : Edges) (exit : Exit) → Ends before now exit → before.left ≡ Some input → before.held ≡ Some held
+    → IsRefusedExactly input held now exit
+refused_of input held before now Done ends e h = λ end refused written.
+    absurd (true≢false (sym refused ∙ (of_some (λ i. WritesAnswer false i before now) before.left input e (ends.done refl)).kind))
+refused_of input held before now Usage ends e h = absurd (ends.no_usage refl)
+refused_of input held before now ScriptRefused ends e h = λ end refused written. refl
+refused_of input held before now ReadFault ends e h = unwritten input held before now ReadFault h (ends.read_fault refl).1
+refused_of input held before now WriteFault ends e h = λ end refused written.
+    let part = of_some (λ i. WritesPart i before now) before.left input e (ends.write_fault refl).1 in
+    absurd (shorter held (answer_of (script_of input)).text now.held (subst (λ b. AppendsPart b now.held (answer_of (script_of input)).text) h part.written) written)
+refused_of input held before now OutOfMemory ends e h = unwritten input held before now OutOfMemory h (ends.out_of_memory refl)
+refused_of input held before now TooLong ends e h = unwritten input held before now TooLong h (ends.too_long refl).1
 
-pub refused_exactly : (left now before held : Option (List ℕ)) (r s w x : ℕ) (exit : Exit)
-    → (exit ≡ Done → AnswersWhole false left now before held)
-    → (exit ≡ ReadFault → Rose r s × (held ≡ before))
-    → (exit ≡ WriteFault → Rose w x × AnswersPart left now before held)
-    → (exit ≡ TooLong → Takes left now 16777217 × (held ≡ before))
-    → (exit ≡ OutOfMemory → held ≡ before)
-    → (exit ≡ Usage → ⊥)
-    → IsRefusedExactly left now before held exit
-refused_exactly left now before held r s w x Done done read write long memory usage = refused_done left now before held (done refl)
-refused_exactly left now before held r s w x Usage done read write long memory usage = absurd (usage refl)
-refused_exactly left now before held r s w x ScriptRefused done read write long memory usage = refused_refused left now before held
-refused_exactly left now before held r s w x ReadFault done read write long memory usage = refused_unwritten left now before held ReadFault (read refl).1
-refused_exactly left now before held r s w x WriteFault done read write long memory usage = refused_part left now before held (write refl).1
-refused_exactly left now before held r s w x OutOfMemory done read write long memory usage = refused_unwritten left now before held OutOfMemory (memory refl)
-refused_exactly left now before held r s w x TooLong done read write long memory usage = refused_unwritten left now before held TooLong (long refl).1
+-- ---- from what each end tells
 
-pub complete : (left now before held : Option (List ℕ)) (r s w x : ℕ) (exit : Exit)
-    → (exit ≡ ScriptRefused → AnswersWhole true left now before held)
-    → (exit ≡ ReadFault → Rose r s × (held ≡ before))
-    → (exit ≡ WriteFault → Rose w x × AnswersPart left now before held)
-    → (exit ≡ TooLong → Takes left now 16777217 × (held ≡ before))
-    → (exit ≡ Usage → ⊥)
-    → IsComplete left r s w x exit
-complete left now before held r s w x Done refused read write long usage = complete_done left r s w x
-complete left now before held r s w x Usage refused read write long usage = absurd (usage refl)
-complete left now before held r s w x ScriptRefused refused read write long usage = complete_refused left now before held r s w x (refused refl)
-complete left now before held r s w x ReadFault refused read write long usage = complete_read left r s w x (read refl).0
-complete left now before held r s w x WriteFault refused read write long usage = complete_write left r s w x (write refl).0
-complete left now before held r s w x OutOfMemory refused read write long usage = complete_memory left r s w x
-complete left now before held r s w x TooLong refused read write long usage = complete_long left now r s w x (long refl).0
+pub replays_of : (before now : Edges) (exit : Exit) → Ends before now exit → Replays before now exit
+replays_of before now exit ends = record {
+  ends = ends;
+  refused_exactly = if_some _ before.left (λ input e. if_some _ before.held (λ held h. refused_of input held before now exit ends e h));
+  complete = if_some _ before.left (λ input e. complete_of input before now exit ends e);
+}

@@ -1,5 +1,5 @@
 -- The words of the commands.
-use Rattle.std.specs.Prelude.{ℕ, Bool, false, ◌==◌, ◌&&◌, List, [], ◌∷◌, String, IsTrue, bytes_eq, codes, length, string_bytes}
+use Rattle.std.specs.Prelude.{Bool, false, ◌==◌, ◌&&◌, List, [], ◌∷◌, String, IsTrue, bytes_eq, codes, length, string_bytes}
 use Rattle.std.specs.declared.alloc.Global.{Global}
 
 -- the one word `replay`

@@ -1,6 +1,6 @@
 ghost use Rattle.std.specs.Prelude.{◌≡◌, IfOk};
 ghost use Rattle.script_form.specs.Reading.{script_of};
-ghost use Rattle.esmaster.specs.Answers.{answer_of, refusal_line};
+ghost use Rattle.esmaster.specs.Answers.{IsReportedInOrder, answer_of, refusal_line};
 
 use master_run::SerialCore;
 use plain_data::{OutOfMemory, Text};
@@ -19,7 +19,8 @@ pub(crate) struct Answer {
 /// What a replay writes for a script: its report, or the line that refuses it.
 #[tactic(auto, unfolding(crate::specs::Answers::answer_of))]
 pub(crate) fn answer_to(alloc: Global, bytes: &[u8]) -> Result<Answer, OutOfMemory>
-    ensures { IfOk result (λ made. made ≡ answer_of (script_of bytes.now)) }
+    ensures answer { IfOk result (λ made. made ≡ answer_of (script_of bytes.now)) }
+    ensures in_order { IfOk result (λ made. IsReportedInOrder (script_of bytes.now)) }
 {
     match read_script(alloc, bytes) {
         Ok(script) => {

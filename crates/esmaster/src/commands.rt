@@ -1,7 +1,5 @@
-ghost use Rattle.std.specs.Prelude.{◌≡◌, ◌↔◌, true, false};
-ghost use Rattle.edge_io.specs.Causes.{Rose};
-ghost use Rattle.edge_io.specs.Bytes.{Takes, TakesAtMost};
-ghost use Rattle.esmaster.specs.Answers.{AnswersPart, AnswersWhole, IsComplete, IsRefusedExactly};
+ghost use Rattle.std.specs.Prelude.{◌≡◌, ◌↔◌};
+ghost use Rattle.esmaster.specs.Answers.{Replays};
 ghost use Rattle.esmaster.specs.Commands.{IsReplay, is_replay_form};
 
 use crate::exits::Exit;
@@ -27,16 +25,8 @@ pub fn esmaster<R: Threads + Wait + Sync, S: Source, K: Sink, C: Clock + Sync, G
     ensures usage { result ≡ Exit.Usage ↔ ¬ IsReplay words.now }
     ensures unused { result ≡ Exit.Usage → (S.left source.new ≡ S.left source.old) × (K.held sink.new ≡ K.held sink.old) }
 
-    // The answers of `replay`.
-    ensures done { result ≡ Exit.Done → AnswersWhole false (S.left source.old) (S.left source.new) (K.held sink.old) (K.held sink.new) }
-    ensures script_refused { result ≡ Exit.ScriptRefused → AnswersWhole true (S.left source.old) (S.left source.new) (K.held sink.old) (K.held sink.new) }
-    ensures read_fault { result ≡ Exit.ReadFault → Rose (S.faults source.old) (S.faults source.new) × (K.held sink.new ≡ K.held sink.old) }
-    ensures write_fault { result ≡ Exit.WriteFault → Rose (K.faults sink.old) (K.faults sink.new) × AnswersPart (S.left source.old) (S.left source.new) (K.held sink.old) (K.held sink.new) }
-    ensures too_long { result ≡ Exit.TooLong → Takes (S.left source.old) (S.left source.new) 16777217 × (K.held sink.new ≡ K.held sink.old) }
-    ensures not_too_long { ¬ (result ≡ Exit.TooLong) → IsReplay words.now → TakesAtMost (S.left source.old) (S.left source.new) 16777216 }
-    ensures out_of_memory { result ≡ Exit.OutOfMemory → K.held sink.new ≡ K.held sink.old }
-    ensures refused_exactly { IsReplay words.now → IsRefusedExactly (S.left source.old) (S.left source.new) (K.held sink.old) (K.held sink.new) result }
-    ensures complete { IsReplay words.now → IsComplete (S.left source.old) (S.faults source.old) (S.faults source.new) (K.faults sink.old) (K.faults sink.new) result }
+    // What `replay` answers.
+    ensures replays { IsReplay words.now → Replays (record { left = S.left source.old; read_faults = S.faults source.old; held = K.held sink.old; write_faults = K.faults sink.old }) (record { left = S.left source.new; read_faults = S.faults source.new; held = K.held sink.new; write_faults = K.faults sink.new }) result }
 {
     if is_replay(words) {
         replay(alloc, source, sink)

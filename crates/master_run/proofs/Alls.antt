@@ -1,5 +1,5 @@
--- What holds of every element of a list, as it grows and is filtered.
-use Rattle.std.specs.Prelude.{◌≡◌, ◌<◌, Bool, true, false, cond, List, [], ◌∷◌, ◌++◌, filter, length, refl}
+-- What holds of one of two, and of every element of a list, as it grows and is filtered.
+use Rattle.std.specs.Prelude.{◌≡◌, ◌<◌, Bool, true, false, cond, List, [], ◌∷◌, ◌++◌, filter, length, refl, if◌then◌else◌}
 use Rattle.std.proofs.Common.{arith}
 use Rattle.std.specs.List.{AllByRecursion}
 
@@ -18,6 +18,12 @@ all_append P (x ∷ xs) ys all more = (all.0, all_append P xs ys all.1 more)
 pub all_both : {X : Type 0} (P Q : X → Type 0) (xs : List X) → AllByRecursion P xs → AllByRecursion Q xs → AllByRecursion (λ x. P x × Q x) xs
 all_both P Q [] all more = tt
 all_both P Q (x ∷ xs) all more = ((all.0, more.0), all_both P Q xs all.1 more.1)
+
+-- ---- one of two
+
+pub either : {X : Type 0} (P : X → Type 0) (b : Bool) (x y : X) → P x → P y → P (if b then x else y)
+either P true x y h k = h
+either P false x y h k = k
 
 -- ---- filters
 

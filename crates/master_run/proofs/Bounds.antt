@@ -13,7 +13,7 @@ use Rattle.meta_state.specs.States.{AreRoomy}
 use Rattle.scripts.specs.declared.whole_script.Script.{Script}
 use Rattle.scripts.specs.declared.steps.Step.{Step}
 use Rattle.scripts.specs.Scripts.{IsScript}
-use Rattle.scripts.specs.Steps.{is_client}
+use Rattle.scripts.specs.ValidSteps.{is_client}
 use Rattle.executors.proofs.Counts.{AreCounted}
 use Rattle.session_law.specs.declared.batches.Batch.{Batch}
 use Rattle.session_law.specs.declared.worlds.NodeWorld.{NodeWorld}

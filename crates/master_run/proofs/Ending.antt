@@ -1,5 +1,5 @@
 -- Each task of a batch ends: there are as many ends as entries.
-use Rattle.std.specs.Prelude.{◌≡◌, ℕ, ◌+◌, Bool, true, false, not, ◌&&◌, List, [], ◌∷◌, ◌++◌, length, map, Option, Some, option_and_then, slice_get, refl, if◌then◌else◌}
+use Rattle.std.specs.Prelude.{◌≡◌, ℕ, ◌+◌, true, not, ◌&&◌, List, [], ◌∷◌, ◌++◌, length, map, Option, Some, option_and_then, slice_get, refl}
 use Rattle.std.proofs.Common.{sym, ◌∙◌, ap, subst, arith}
 use Rattle.std.proofs.Math.Bool.{true≢false}
 use Rattle.std.proofs.lemmas.List.{length-append, length-map, length-replicate}
@@ -18,7 +18,6 @@ use Rattle.executors.specs.declared.executions.Executed.TheVariants.{Made, Faile
 use Rattle.executors.specs.declared.kinds.Kind.{Kind}
 use Rattle.scripts.specs.declared.queues.QueueSpec.{QueueSpec}
 use Rattle.scripts.specs.declared.whole_script.Script.{Script}
-use Rattle.scripts.specs.declared.whole_script.ScriptNode.{ScriptNode}
 use Rattle.scripts.specs.declared.steps.Step.{Step}
 use Rattle.scripts.specs.declared.steps.Step.TheVariants as step
 use Rattle.executors.specs.declared.tasks.Task.{Task}
@@ -27,13 +26,13 @@ use Rattle.executors.specs.Executions.{executed, failed_by, failed_or, folded, m
 use Rattle.executors.specs.Kinds.{is_atomic, needs_master}
 use Rattle.executors.specs.TaskRuns.{task_outcome}
 use Rattle.session_law.specs.declared.batches.Entry.{Entry}
-use Rattle.session_law.specs.declared.worlds.Reach.{Reach}
 use Rattle.session_law.specs.declared.worlds.Stepped.{Stepped}
 use Rattle.session_law.specs.declared.worlds.World.{World}
 use Rattle.session_law.specs.Histories.{IsOwn, is_own_step, step_at, submitted, task_at, tasks_at}
-use Rattle.session_law.specs.Publications.{cut_by, does_commit, reach_all, reach_none}
-use Rattle.session_law.specs.BatchSteps.{batch_step, commit_step, drop_step, end_of, executed_step, next_step}
-use Rattle.master_run.specs.Books.{ran_at}
+use Rattle.session_law.specs.Publications.{does_commit, reach_of}
+use Rattle.session_law.specs.BatchSteps.{BatchInput, batch_step, commit_step, drop_step, end_of, executed_step, next_step, refused_step}
+use Rattle.master_run.specs.Books.{input_at, ran_at}
+use Rattle.master_run.proofs.Alls.{either}
 use Rattle.master_run.proofs.Bounds.{Stands, stands}
 
 -- ---- each task is marked
@@ -65,10 +64,6 @@ refused_marks : (count : ℕ) (marks : List Mark) (made : Executed) → HasMarks
 refused_marks count [] made h = h
 refused_marks count (mark ∷ marks) made h = failed_marks count mark.position mark.verdict (failed_or marks made) (refused_marks count marks made h)
 
-either_marks : (count : ℕ) (b : Bool) (atomic plain : Executed) → HasMarks count atomic → HasMarks count plain → HasMarks count (if b then atomic else plain)
-either_marks count true atomic plain h k = h
-either_marks count false atomic plain h k = k
-
 executed_marks : (kind : Kind) (state : ClusterState) (tasks : List Task) → HasMarks (length tasks) (executed kind state (numbered 0 tasks))
 unfolding executed
 executed_marks kind state tasks =
@@ -76,37 +71,30 @@ executed_marks kind state tasks =
     let marks = folded_count state [] (numbered 0 tasks) in
     let places = numbered_count 0 tasks in
     let made : HasMarks (length tasks) (made_of ran) = omega arith in
-    either_marks (length tasks) (is_atomic kind) (unless_refused ran) (made_of ran) (refused_marks (length tasks) ran.marks (made_of ran) made) made
+    either (HasMarks (length tasks)) (is_atomic kind) (unless_refused ran) (made_of ran) (refused_marks (length tasks) ran.marks (made_of ran) made) made
 
 -- ---- each task ends
 
-publish_ends : (commits : Bool) (world : World) (kind : Kind) (count at : ℕ) (new : ClusterState) (marks : List Mark) (reach : Reach) → length marks ≡ count
-    → length (if commits then commit_step world kind at new marks reach else drop_step world count new reach).ends ≡ count
-publish_ends true world kind count at new marks reach e = length-map marks (end_of (end.Ok new.version)) ∙ e
-publish_ends false world kind count at new marks reach e = length-replicate count end.PublishFailed
+abbrev HasEnds : ℕ → Stepped × World → Type 0
+HasEnds count step = length step.0.ends ≡ count
 
-next_ends : (cut : List ℕ → ℕ → Bool) (nodes : List ScriptNode) (world : World) (kind : Kind) (count at : ℕ) (marks : List Mark) (next : Next) → length marks ≡ count
-    → length (next_step cut nodes world kind count at marks next).ends ≡ count
-next_ends cut nodes world kind count at marks Same e = length-map marks (end_of (end.Unchanged world.state.version)) ∙ e
-next_ends cut nodes world kind count at marks (Changed new) e =
-    let reach = reach_all cut world.state new reach_none nodes world.nodes in
-    publish_ends (does_commit new reach) world kind count at new marks reach e
+next_ends : (input : BatchInput) (world : World) (marks : List Mark) (next : Next) → length marks ≡ length input.tasks → HasEnds (length input.tasks) (next_step input world marks next)
+next_ends input world marks Same e = length-map marks (end_of (end.Unchanged world.state.version)) ∙ e
+next_ends input world marks (Changed new) e =
+    let reach = reach_of input.cut world.state new input.nodes world.nodes in
+    either (HasEnds (length input.tasks)) (does_commit new reach) (commit_step input world new marks reach) (drop_step input world new reach)
+    (length-map marks (end_of (end.Ok new.version)) ∙ e) (length-replicate (length input.tasks) end.PublishFailed)
 
-executed_ends : (cut : List ℕ → ℕ → Bool) (nodes : List ScriptNode) (world : World) (kind : Kind) (count at : ℕ) (made : Executed) → HasMarks count made
-    → length (executed_step cut nodes world kind count at made).ends ≡ count
-executed_ends cut nodes world kind count at (Failed position refusal) h = length-replicate count (end.BatchFailed position refusal)
-executed_ends cut nodes world kind count at (Made state marks) h = next_ends cut nodes world kind count at marks (next_of world.state state (world.proposals + 2)) h
+executed_ends : (input : BatchInput) (world : World) (made : Executed) → HasMarks (length input.tasks) made → HasEnds (length input.tasks) (executed_step input world made)
+executed_ends input world (Failed position refusal) h = length-replicate (length input.tasks) (end.BatchFailed position refusal)
+executed_ends input world (Made state marks) h = next_ends input world marks (next_of world.state state (world.proposals + 2)) h
 
-office_ends : (refused : Bool) (count : ℕ) (none some : Stepped) → length none.ends ≡ count → length some.ends ≡ count → length (if refused then none else some).ends ≡ count
-office_ends true count none some h k = h
-office_ends false count none some h k = k
-
-step_ends : (cut : List ℕ → ℕ → Bool) (nodes : List ScriptNode) (world : World) (kind : Kind) (tasks : List Task) (at : ℕ)
-    → length (batch_step cut nodes world kind tasks at).ends ≡ length tasks
+step_ends : (input : BatchInput) (world : World) → HasEnds (length input.tasks) (batch_step input world)
 unfolding batch_step
-step_ends cut nodes world kind tasks at =
-    office_ends (needs_master kind && not world.in_office) (length tasks) _ _ (length-replicate (length tasks) end.NotMaster)
-    (executed_ends cut nodes world kind (length tasks) at (executed kind world.state (numbered 0 tasks)) (executed_marks kind world.state tasks))
+step_ends input world =
+    let made = executed input.kind world.state (numbered 0 input.tasks) in
+    either (HasEnds (length input.tasks)) (needs_master input.kind && not world.in_office) (refused_step input world) (executed_step input world made)
+    (length-replicate (length input.tasks) end.NotMaster) (executed_ends input world made (executed_marks input.kind world.state input.tasks))
 
 -- ---- each entry has a task
 
@@ -126,7 +114,7 @@ entry_counts script name entry rest at =
     ap (option_and_then (λ steps. slice_get steps entry.step)) at.of_client ∙ at.of_steps in
     subst (λ (found : Option Step). length (cons_option (option_and_then submitted found) rest) ≡ length rest + 1) (sym here) (step_counts script name at.step rest at.own)
 
-entries_count : (script : Script) (name : List ℕ) (entries : List Entry) → AllByRecursion (IsOwn script) (map (λ e. record { queue = name; entry = e }) entries)
+pub entries_count : (script : Script) (name : List ℕ) (entries : List Entry) → AllByRecursion (IsOwn script) (map (λ e. record { queue = name; entry = e }) entries)
     → length (tasks_at script entries) ≡ length entries
 entries_count script name [] own = refl
 entries_count script name (entry ∷ entries) own =
@@ -135,6 +123,6 @@ entries_count script name (entry ∷ entries) own =
     omega arith
 
 pub ends_count : (script : Script) (world : World) (queue : QueueSpec) (entries : List Entry) (at : ℕ)
-    → AllByRecursion (IsOwn script) (map (λ e. record { queue = queue.name; entry = e }) entries) → length (ran_at script world queue entries at).ends ≡ length entries
+    → AllByRecursion (IsOwn script) (map (λ e. record { queue = queue.name; entry = e }) entries) → length (ran_at script world queue entries at).0.ends ≡ length entries
 ends_count script world queue entries at own =
-    step_ends (cut_by script.faults) script.nodes world queue.executor (tasks_at script entries) at ∙ entries_count script queue.name entries own
+    step_ends (input_at script queue entries at) world ∙ entries_count script queue.name entries own

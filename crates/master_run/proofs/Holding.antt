@@ -1,5 +1,5 @@
 -- Each submit that was performed waits, or its client was told how it ended.
-use Rattle.std.specs.Prelude.{◌≡◌, ℕ, zero, suc, ◌+◌, ◌<◌, ◌≤◌, ◌⊎◌, Bool, true, false, not, cond, ◌==◌, ◌&&◌, ◌||◌, List, [], ◌∷◌, ◌++◌, length, Option, Some, None, is_some, slice_index_or, slice_set, refl}
+use Rattle.std.specs.Prelude.{◌≡◌, ℕ, zero, suc, ◌+◌, ◌<◌, ◌≤◌, ◌⊎◌, Bool, true, false, not, cond, ◌&&◌, ◌||◌, List, [], ◌∷◌, ◌++◌, length, Option, Some, None, is_some, slice_index_or, slice_set, refl}
 use Rattle.std.proofs.Common.{sym, ◌∙◌, ap, subst, arith, inl, inr}
 use Rattle.std.proofs.Math.Bool.{true≢false}
 use Rattle.std.specs.BTreeMap.{insert_entry, is_at}
@@ -228,9 +228,6 @@ held_on script positions client before now told other step held longer new own (
     (λ i. is_submit_at (step_at script (sym same.0 i) (sym same.1 i))) ∙ own in
     let here : list_any (is_entry_of other step) now ≡ true = (λ i. list_any (is_entry_of (same.0 i) (same.1 i)) now) ∙ new own_here in
     or_left (list_any (is_entry_of other step) now) (is_told told other step) here
-
-same_number : (n : ℕ) → (n == n) ≡ true
-same_number n = (unsigned_Decides n n).1 refl
 
 pub held_submitted : (script : Script) (positions : List ℕ) (client : ℕ) (waiting : List Waiting) (told : Tellings) (w : Waiting) → w.entry.client ≡ client → w.entry.step ≡ next_at positions client
     → AreHeld script positions waiting told → AreHeld script (slice_set positions client (next_at positions client + 1)) (waiting ++ w ∷ []) told

@@ -1,8 +1,9 @@
 -- A book stays kept where a batch of its script's own entries joins it, each apart from all before it.
-use Rattle.std.specs.Prelude.{◌≡◌, ℕ, zero, suc, ◌+◌, ◌<◌, ◌≤◌, Bool, true, false, not, ◌&&◌, ◌||◌, List, [], ◌∷◌, ◌++◌, length, map, fold, Some, None, slice_get, bytes_eq, refl, if◌then◌else◌}
+use Rattle.std.specs.Prelude.{◌≡◌, ℕ, zero, suc, ◌+◌, ◌<◌, ◌≤◌, Bool, true, false, not, ◌==◌, ◌&&◌, ◌||◌, List, [], ◌∷◌, ◌++◌, length, map, fold, Some, None, slice_get, bytes_eq, refl, if◌then◌else◌}
 use Rattle.std.proofs.Common.{sym, ◌∙◌, ap, subst, arith, append-nil}
 use Rattle.std.proofs.lemmas.Grind.{flat_map-append}
 use Rattle.std.proofs.Math.Bool.{true≢false}
+use Rattle.std.specs.Cmp.{unsigned_Decides}
 use Rattle.std.specs.List.{AllByRecursion, list_any}
 use Rattle.std.specs.Cmp.Lexicographic.{bytes_decides}
 use Rattle.meta_state.specs.declared.cluster_state.ClusterState.{ClusterState}
@@ -15,8 +16,6 @@ use Rattle.executors.specs.declared.executions.Executed.TheVariants.{Made, Faile
 use Rattle.executors.specs.declared.kinds.Kind.{Kind}
 use Rattle.scripts.specs.declared.queues.QueueSpec.{QueueSpec}
 use Rattle.scripts.specs.declared.whole_script.Script.{Script}
-use Rattle.scripts.specs.declared.whole_script.ScriptNode.{ScriptNode}
-use Rattle.executors.specs.declared.tasks.Task.{Task}
 use Rattle.executors.specs.Contexts.{numbered}
 use Rattle.executors.specs.Executions.{executed}
 use Rattle.executors.specs.Kinds.{needs_master}
@@ -27,11 +26,11 @@ use Rattle.session_law.specs.declared.batches.Entry.{Entry}
 use Rattle.session_law.specs.declared.worlds.Reach.{Reach}
 use Rattle.session_law.specs.declared.worlds.Stepped.{Stepped}
 use Rattle.session_law.specs.declared.worlds.World.{World}
-use Rattle.session_law.specs.Histories.{AreApart, AreResults, AreSeen, IsApart, IsOwn, Queued, after, commit_of, kind_named, queued_in, queued_of, stepped, tasks_at, world_after}
-use Rattle.session_law.specs.Publications.{cut_by, does_commit, reach_all, reach_none}
-use Rattle.session_law.specs.BatchSteps.{batch_step, commit_step, drop_step, executed_step, next_step}
+use Rattle.session_law.specs.Histories.{AreApart, AreSeen, IsApart, IsOwn, Queued, SteppedBatch, after, commit_of, history_on, kind_named, queued_in, queued_of, stepped, tasks_at, world_after}
+use Rattle.session_law.specs.Publications.{cut_by, does_commit, reach_of}
+use Rattle.session_law.specs.BatchSteps.{BatchInput, batch_step, commit_step, drop_step, executed_step, next_step, refused_step}
 use Rattle.session_law.specs.Worlds.{first_world}
-use Rattle.master_run.specs.Books.{Chronicle, IsKeptBook, first_book, noted, ran_at}
+use Rattle.master_run.specs.Books.{Chronicle, IsKeptBook, first_book, input_at, noted, ran_at}
 use Rattle.master_run.proofs.Alls.{all_append, all_by, all_push}
 
 -- ---- tests and options
@@ -49,6 +48,9 @@ or_right false b e = e
 pub or_left : (a b : Bool) → a ≡ true → (a || b) ≡ true
 or_left true b e = refl
 or_left false b e = absurd (true≢false (sym e))
+
+pub same_number : (n : ℕ) → (n == n) ≡ true
+same_number n = (unsigned_Decides n n).1 refl
 
 not_true : (a : Bool) → not a ≡ true → a ≡ false
 not_true false e = refl
@@ -110,41 +112,49 @@ names_apart (q ∷ queues) (suc i) (suc j) a b d e f h = ap suc (names_apart que
 
 -- ---- a batch is the same again at the reading at which it committed
 
-publish_again : (commits : Bool) (world : World) (kind : Kind) (count at : ℕ) (new : ClusterState) (marks : List Mark) (reach : Reach)
-    → let at_reading : ℕ → Stepped = λ c. if commits then commit_step world kind c new marks reach else drop_step world count new reach in
-    at_reading (commit_of (at_reading at).result) ≡ at_reading at
-publish_again true world kind count at new marks reach = refl
-publish_again false world kind count at new marks reach = refl
+-- the input of a batch, with another reading
+abbrev with_reading : BatchInput → ℕ → BatchInput
+with_reading input at = record input { commit = at }
 
-next_again : (cut : List ℕ → ℕ → Bool) (nodes : List ScriptNode) (world : World) (kind : Kind) (count at : ℕ) (marks : List Mark) (next : Next)
-    → next_step cut nodes world kind count (commit_of (next_step cut nodes world kind count at marks next).result) marks next ≡ next_step cut nodes world kind count at marks next
-next_again cut nodes world kind count at marks Same = refl
-next_again cut nodes world kind count at marks (Changed new) =
-    let reach = reach_all cut world.state new reach_none nodes world.nodes in
-    publish_again (does_commit new reach) world kind count at new marks reach
+publish_again : (commits : Bool) (input : BatchInput) (at : ℕ) (world : World) (new : ClusterState) (marks : List Mark) (reach : Reach)
+    → let at_reading : ℕ → Stepped × World = λ c. if commits then commit_step (with_reading input c) world new marks reach else drop_step (with_reading input c) world new reach in
+    at_reading (commit_of (at_reading at).0.result) ≡ at_reading at
+publish_again true input at world new marks reach = refl
+publish_again false input at world new marks reach = refl
 
-executed_again : (cut : List ℕ → ℕ → Bool) (nodes : List ScriptNode) (world : World) (kind : Kind) (count at : ℕ) (made : Executed)
-    → executed_step cut nodes world kind count (commit_of (executed_step cut nodes world kind count at made).result) made ≡ executed_step cut nodes world kind count at made
-executed_again cut nodes world kind count at (Failed position refusal) = refl
-executed_again cut nodes world kind count at (Made state marks) = next_again cut nodes world kind count at marks (next_of world.state state (world.proposals + 2))
+next_again : (input : BatchInput) (at : ℕ) (world : World) (marks : List Mark) (next : Next)
+    → next_step (with_reading input (commit_of (next_step (with_reading input at) world marks next).0.result)) world marks next ≡ next_step (with_reading input at) world marks next
+next_again input at world marks Same = refl
+next_again input at world marks (Changed new) =
+    let reach = reach_of input.cut world.state new input.nodes world.nodes in
+    publish_again (does_commit new reach) input at world new marks reach
 
-office_again : (refused : Bool) (none : Stepped) (some : ℕ → Stepped) (at : ℕ) → some (commit_of (some at).result) ≡ some at
-    → let at_reading : ℕ → Stepped = λ c. if refused then none else some c in
-    at_reading (commit_of (at_reading at).result) ≡ at_reading at
-office_again true none some at e = refl
-office_again false none some at e = e
+executed_again : (input : BatchInput) (at : ℕ) (world : World) (made : Executed)
+    → executed_step (with_reading input (commit_of (executed_step (with_reading input at) world made).0.result)) world made ≡ executed_step (with_reading input at) world made
+executed_again input at world (Failed position refusal) = refl
+executed_again input at world (Made state marks) = next_again input at world marks (next_of world.state state (world.proposals + 2))
 
-step_again : (cut : List ℕ → ℕ → Bool) (nodes : List ScriptNode) (world : World) (kind : Kind) (tasks : List Task) (at : ℕ)
-    → batch_step cut nodes world kind tasks (commit_of (batch_step cut nodes world kind tasks at).result) ≡ batch_step cut nodes world kind tasks at
+office_again : (refused : Bool) (none some : ℕ → Stepped × World) (at : ℕ) → none (commit_of (none at).0.result) ≡ none at → some (commit_of (some at).0.result) ≡ some at
+    → let at_reading : ℕ → Stepped × World = λ c. if refused then none c else some c in
+    at_reading (commit_of (at_reading at).0.result) ≡ at_reading at
+office_again true none some at e f = e
+office_again false none some at e f = f
+
+step_again : (input : BatchInput) (at : ℕ) (world : World)
+    → batch_step (with_reading input (commit_of (batch_step (with_reading input at) world).0.result)) world ≡ batch_step (with_reading input at) world
 unfolding batch_step
-step_again cut nodes world kind tasks at =
-    office_again (needs_master kind && not world.in_office) _ (λ c. executed_step cut nodes world kind (length tasks) c (executed kind world.state (numbered 0 tasks))) at
-    (executed_again cut nodes world kind (length tasks) at (executed kind world.state (numbered 0 tasks)))
+step_again input at world =
+    let made = executed input.kind world.state (numbered 0 input.tasks) in
+    office_again (needs_master input.kind && not world.in_office) (λ c. refused_step (with_reading input c) world) (λ c. executed_step (with_reading input c) world made) at
+    refl (executed_again input at world made)
 
 -- ---- one more at the back
 
-results_push : (script : Script) (world : World) (batches : List Batch) (batch : Batch) → AreResults script world batches
-    → batch.result ≡ (stepped script (fold (after script) world batches) batch).result → AreResults script world (batches ++ batch ∷ [])
+abbrev HasComputed : SteppedBatch → Type 0
+HasComputed s = s.batch.result ≡ s.stepped.result
+
+results_push : (script : Script) (world : World) (batches : List Batch) (batch : Batch) → AllByRecursion HasComputed (history_on script world batches)
+    → batch.result ≡ (stepped script (fold (after script) world batches) batch).0.result → AllByRecursion HasComputed (history_on script world (batches ++ batch ∷ []))
 results_push script world [] batch all e = (e, tt)
 results_push script world (first ∷ batches) batch all e = (all.0, results_push script (after script world first) batches batch all.1 e)
 
@@ -184,20 +194,21 @@ pub kept_join : (script : Script) (book : Chronicle) (number : ℕ) (queue : Que
     0 < length entries → AllByRecursion (IsOwn script) placed → AllByRecursion (λ e. e.seen ≤ length book.batches) entries → AreApart (queued_of book.batches ++ placed)
     → IsKeptBook script (noted book queue entries at (ran_at script book.world queue entries at))
 kept_join script book number queue entries at valid kept e some own seen apart =
-    let step : World → Kind → ℕ → Stepped = λ w k c. batch_step (cut_by script.faults) script.nodes w k (tasks_at script entries) c in
+    let step : World → Kind → ℕ → Stepped × World =
+    λ w k c. batch_step (record { cut = cut_by script.faults; nodes = script.nodes; kind = k; tasks = tasks_at script entries; commit = c }) w in
     let made = step book.world queue.executor at in
-    let batch : Batch = record { queue = queue.name; at = at; entries = entries; result = made.result } in
+    let batch : Batch = record { queue = queue.name; at = at; entries = entries; result = made.0.result } in
     let again : made ≡ stepped script (world_after script book.batches) batch =
-    sym (step_again (cut_by script.faults) script.nodes book.world queue.executor (tasks_at script entries) at)
-    ∙ (λ i. step (kept.world i) (sym (named_kind script.queues number queue valid.queues_distinct e) i) (commit_of made.result)) in
+    sym (step_again (input_at script queue entries at) at book.world)
+    ∙ (λ i. step (kept.world i) (sym (named_kind script.queues number queue valid.queues_distinct e) i) (commit_of made.0.result)) in
     record {
       serial = record {
-        results = results_push script (first_world script) book.batches batch kept.serial.results (ap (λ (s : Stepped). s.result) again);
+        results = results_push script (first_world script) book.batches batch kept.serial.results (ap (λ (s : Stepped × World). s.0.result) again);
         filled = all_push (λ (b : Batch). 0 < length b.entries) book.batches batch kept.serial.filled some;
         own = subst (AllByRecursion (IsOwn script)) (sym (placed_push book.batches batch)) (all_append (IsOwn script) (queued_of book.batches) (queued_in batch) kept.serial.own own);
         apart = subst AreApart (sym (placed_push book.batches batch)) apart;
         seen = seen_push 1 book.batches batch kept.serial.seen
             (all_by (λ (e : Entry). e.seen ≤ length book.batches) (λ (e : Entry). e.seen < 1 + length book.batches) (λ e less. omega arith) entries seen);
       };
-      world = ap (λ (s : Stepped). s.world) again ∙ sym (world_push script (first_world script) book.batches batch);
+      world = ap (λ (s : Stepped × World). s.1) again ∙ sym (world_push script (first_world script) book.batches batch);
     }

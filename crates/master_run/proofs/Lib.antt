@@ -1,5 +1,6 @@
 pub mod Alls
 pub mod Bounds
+pub mod Counting
 pub mod Edges
 pub mod Ending
 pub mod Holding

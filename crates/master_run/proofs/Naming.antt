@@ -7,7 +7,7 @@ use Rattle.scripts.specs.declared.steps.Goal.TheVariants as goal
 use Rattle.scripts.specs.declared.steps.Step.{Step}
 use Rattle.scripts.specs.declared.steps.Step.TheVariants.{Submit, Await, Watch, Next, Read, Sleep, Close}
 use Rattle.scripts.specs.Scripts.{IsScript}
-use Rattle.scripts.specs.Steps.{are_steps, is_client, is_goal, is_step}
+use Rattle.scripts.specs.ValidSteps.{are_steps, is_client, is_goal, is_step}
 use Rattle.session_law.specs.Histories.{step_at}
 use Rattle.master_run.specs.Soundness.{is_submit_at}
 use Rattle.master_run.proofs.Bounds.{all_get, stood}

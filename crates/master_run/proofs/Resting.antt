@@ -15,16 +15,20 @@ use Rattle.scripts.specs.declared.steps.Step.{Step}
 use Rattle.scripts.specs.declared.steps.Step.TheVariants.{Submit, Await, Watch, Next, Read, Sleep, Close}
 use Rattle.scripts.specs.Built.{IsBuilt}
 use Rattle.scripts.specs.Scripts.{IsScript}
+use Rattle.session_law.specs.declared.worlds.World.{World}
 use Rattle.session_law.specs.Histories.{step_at}
+use Rattle.session_law.proofs.History.{tasks_stand_once, versions_are_in_order}
 use Rattle.master_run.specs.declared.replays.Replay.{Replay}
 use Rattle.master_run.specs.declared.tellings.Telling.{Telling}
 use Rattle.master_run.specs.declared.waitings.Waiting.{Waiting}
-use Rattle.master_run.specs.Replays.{begun, client_turns, most_rounds, performed, round_of, rounds}
+use Rattle.master_run.specs.Replays.{begun, client_turns, most_rounds, performed, replayed, round_of, rounds}
+use Rattle.master_run.specs.SerialSessions.{IsSerialSession}
 use Rattle.master_run.specs.Rests.{IsAtRest}
 use Rattle.master_run.specs.Soundness.{IsSound}
 use Rattle.master_run.specs.Tellings.{batch_told, step_cmp}
 use Rattle.master_run.specs.Turns.{awaited_by, client_turn, first_replay, next_at, queue_turn, step_turn, waiting_of}
 use Rattle.master_run.specs.Waitings.{is_in, next_queue}
+use Rattle.master_run.proofs.Alls.{either}
 use Rattle.master_run.proofs.Bounds.{stood}
 use Rattle.master_run.proofs.Holding.{told_at_rest}
 use Rattle.master_run.proofs.Keeping.{kept_first, no_some, some_same}
@@ -296,6 +300,34 @@ pub comes_to_rest : (script : Script) → IsScript script → IsBuilt script →
 unfolding load
 comes_to_rest script valid built =
     let left = all_left script.clients in rests_in script (most_rounds script) (first_replay script) valid built (first_sound script) (omega arith)
+
+-- ---- what every round keeps
+
+pub rounds_keep : (script : Script) (P : Replay → Type 0) (n : ℕ) (replay : Replay) → IsScript script → ((r : Replay) → IsSound script r → P r → P (round_of script r))
+    → IsSound script replay → P replay → P (rounds script n replay)
+unfolding rounds
+rounds_keep script P zero replay valid keeps sound h = h
+rounds_keep script P (suc n) replay valid keeps sound h =
+    let next = keeps replay sound h in
+    either P (round_of script replay).acted (rounds script n (round_of script replay)) (round_of script replay)
+    (rounds_keep script P n (round_of script replay) valid keeps (round_sound script replay valid sound) next) next
+
+performed_sound : (script : Script) → IsScript script → IsSound script (performed script)
+performed_sound script valid =
+    let first = first_sound script in
+    rounds_keep script (IsSound script) (most_rounds script) (first_replay script) valid (λ r sound h. round_sound script r valid sound) first first
+
+-- so that the session is one of a kept book
+pub is_serial : (script : Script) → IsScript script → IsSerialSession script (replayed script)
+unfolding replayed
+is_serial script valid =
+    let kept = (performed_sound script valid).kept in
+    record {
+      serial = kept.serial;
+      versions = versions_are_in_order script (performed script).book.batches kept.serial;
+      once = tasks_stand_once script (performed script).book.batches kept.serial;
+      last = ap (λ (w : World). w.state) kept.world;
+    }
 
 -- ---- a round more, or the last one
 

@@ -3,6 +3,7 @@ use Rattle.std.specs.Prelude.{◌≡◌, ℕ, ◌<◌, ◌≤◌, Bool, true, fa
 use Rattle.std.proofs.Common.{sym, ◌∙◌, ap, subst, arith}
 use Rattle.std.proofs.Math.Bool.{true≢false}
 use Rattle.std.proofs.lemmas.List.{length-append, length-map}
+use Rattle.std.proofs.lemmas.Option.{slice_get_within}
 use Rattle.std.specs.Cmp.{unsigned_Decides}
 use Rattle.std.specs.Cmp.Lexicographic.{bytes_decides}
 use Rattle.std.specs.List.{AllByRecursion}
@@ -21,7 +22,7 @@ use Rattle.master_run.specs.Soundness.{AreApartAmong, IsPassed, IsSound, IsWaiti
 use Rattle.master_run.specs.Tellings.{told_all}
 use Rattle.master_run.specs.Turns.{master_turn, queue_turn, served}
 use Rattle.master_run.specs.Waitings.{entries_of, is_in, left_by, next_queue, rank_at, sooner, soonest, taken_from}
-use Rattle.master_run.proofs.Alls.{all_append, all_both, all_by, all_filter, all_pass, kept_between, kept_more, kept_some}
+use Rattle.master_run.proofs.Alls.{all_append, all_both, all_by, all_filter, all_pass, either, kept_between, kept_more, kept_some}
 use Rattle.master_run.proofs.Bounds.{false_from}
 use Rattle.master_run.proofs.Ending.{ends_count}
 use Rattle.master_run.proofs.Holding.{all_run, held_served, run_longer}
@@ -29,14 +30,10 @@ use Rattle.master_run.proofs.Keeping.{apart_append, both_first, both_second, kep
 
 -- ---- the queue that is served
 
-either : (P : Waiting → Type 0) (b : Bool) (first next : Waiting) → P first → P next → P (if b then next else first)
-either P true first next h k = k
-either P false first next h k = h
-
 soonest_all : (P : Waiting → Type 0) (queues : List QueueSpec) (first : Waiting) (more : List Waiting) → P first → AllByRecursion P more → P (soonest queues first more)
 soonest_all P queues first [] h all = h
 soonest_all P queues first (next ∷ more) h all =
-    soonest_all P queues (sooner queues first next) more (either P (nat_lt (rank_at queues next.queue) (rank_at queues first.queue)) first next h all.0) all.1
+    soonest_all P queues (sooner queues first next) more (either P (nat_lt (rank_at queues next.queue) (rank_at queues first.queue)) next first all.0 h) all.1
 
 chosen : (p : Waiting → Bool) (queues : List QueueSpec) (first next : Waiting) (more : List Waiting) (b : Bool) → p (soonest queues (if b then next else first) more) ≡ true
     → (p (soonest queues next more) ≡ true → 0 < length (filter p (next ∷ more))) → (p (soonest queues first more) ≡ true → 0 < length (filter p (first ∷ more)))
@@ -69,6 +66,10 @@ is_served script positions batches number (first ∷ more) waiting e =
 
 pub served_some : (script : Script) (replay : Replay) (number : ℕ) → IsSound script replay → next_queue script.queues replay.waiting ≡ Some number → 0 < length (taken_from number replay.waiting)
 served_some script replay number sound e = (is_served script replay.positions (length replay.book.batches) number replay.waiting sound.waiting e).some
+
+pub served_within : (script : Script) (replay : Replay) (number : ℕ) → IsSound script replay → next_queue script.queues replay.waiting ≡ Some number → number < length script.queues
+served_within script replay number sound e =
+    let is = is_served script replay.positions (length replay.book.batches) number replay.waiting sound.waiting e in slice_get_within script.queues number is.queue is.of_queue
 
 -- ---- what is taken from a queue
 
@@ -224,7 +225,7 @@ queue_sound script replay number queue valid sound e some =
     let left = left_by number replay.waiting in
     let placed = queued_of replay.book.batches in
     let made = ran_at script replay.book.world queue (entries_of taken) replay.clock in
-    let batch : Batch = record { queue = queue.name; at = replay.clock; entries = entries_of taken; result = made.result } in
+    let batch : Batch = record { queue = queue.name; at = replay.clock; entries = entries_of taken; result = made.0.result } in
     let pushed = placed_push replay.book.batches batch in
     let longer = length-append replay.book.batches (batch ∷ []) in
     let are_taken = taken_all script replay.positions batches number replay.waiting sound.waiting in
@@ -253,8 +254,8 @@ queue_sound script replay number queue valid sound e some =
       among = among_filter script.queues elsewhere replay.waiting sound.among;
       awaited_places = sound.awaited_places;
       awaited = all_by (λ (n : ℕ). n ≤ batches) (λ (n : ℕ). n ≤ more) (λ n h. omega arith) replay.awaited sound.awaited;
-      told = all_run replay.told more more taken made.ends (run_longer batches more replay.told (omega arith) sound.told) (record { least = omega arith; most = omega arith });
-      held = held_served script replay.positions replay.waiting replay.told number more made.ends (omega arith) sound.held;
+      told = all_run replay.told more more taken made.0.ends (run_longer batches more replay.told (omega arith) sound.told) (record { least = omega arith; most = omega arith });
+      held = held_served script replay.positions replay.waiting replay.told number more made.0.ends (omega arith) sound.held;
     }
 
 pub served_sound : (script : Script) (replay : Replay) (number : ℕ) → IsScript script → IsSound script replay → next_queue script.queues replay.waiting ≡ Some number

@@ -1,9 +1,8 @@
 -- Where one client submits, each of its submits is a batch of its own.
-use Rattle.std.specs.Prelude.{◌≡◌, ℕ, zero, suc, ◌+◌, ◌≤◌, Bool, true, false, not, cond, ◌==◌, List, [], ◌∷◌, ◌++◌, length, map, drop, flat_map, count_by, Option, Some, None, option_and_then, slice_get, slice_set, refl, if◌then◌else◌}
+use Rattle.std.specs.Prelude.{◌≡◌, ℕ, zero, suc, ◌+◌, ◌≤◌, Bool, true, not, cond, List, [], ◌∷◌, ◌++◌, length, map, drop, flat_map, count_by, Option, Some, None, option_and_then, slice_get, slice_set, refl}
 use Rattle.std.proofs.Common.{sym, ◌∙◌, ap, subst, arith}
 use Rattle.std.proofs.lemmas.List.{length-append}
 use Rattle.std.proofs.lemmas.List.Sums.{sum_by-cons}
-use Rattle.std.specs.Cmp.{unsigned_Decides}
 use Rattle.std.specs.List.{AllByRecursion}
 use Rattle.scripts.specs.declared.queues.QueueSpec.{QueueSpec}
 use Rattle.scripts.specs.declared.whole_script.Script.{Script}
@@ -16,7 +15,7 @@ use Rattle.session_law.specs.declared.batches.Batch.{Batch}
 use Rattle.session_law.specs.Histories.{step_at}
 use Rattle.master_run.specs.declared.replays.Replay.{Replay}
 use Rattle.master_run.specs.declared.waitings.Waiting.{Waiting}
-use Rattle.master_run.specs.Books.{Chronicle, added_to, ran_at}
+use Rattle.master_run.specs.Books.{added_to, ran_at}
 use Rattle.master_run.specs.Replays.{begun, client_turns, most_rounds, performed, round_of, rounds}
 use Rattle.master_run.specs.Singles.{AreSingles, IsSingle}
 use Rattle.master_run.specs.Soundness.{IsSound}
@@ -25,8 +24,8 @@ use Rattle.master_run.specs.Turns.{awaited_by, client_turn, first_replay, master
 use Rattle.master_run.specs.Waitings.{entries_of, is_in, left_by, taken_from}
 use Rattle.master_run.proofs.Alls.{all_push}
 use Rattle.master_run.proofs.Bounds.{stood}
-use Rattle.master_run.proofs.Keeping.{no_some, some_same}
-use Rattle.master_run.proofs.Resting.{begun_sound, comes_to_rest, first_sound, round_sound}
+use Rattle.master_run.proofs.Keeping.{no_some, same_number, some_same}
+use Rattle.master_run.proofs.Resting.{begun_sound, comes_to_rest, first_sound, rounds_keep}
 use Rattle.master_run.proofs.Taken.{queued, some_queue}
 
 -- the submits that weren't performed yet
@@ -72,15 +71,8 @@ stepped_left (first ∷ more) (p ∷ positions) (suc client) steps step places e
 
 -- ---- one round
 
--- the master takes the one entry that waits
-served_from : Script → Replay → Waiting → Option QueueSpec → Chronicle
-served_from script replay w found = added_to script replay.book found (w.entry ∷ []) replay.clock
-
 one_waits : (script : Script) (replay : Replay) (client number : ℕ) → replay.waiting ≡ [] → (submitted_to replay client number).waiting ≡ waiting_of replay client number ∷ []
 one_waits script replay client number e = ap (λ (all : List Waiting). all ++ waiting_of replay client number ∷ []) e
-
-same_number : (n : ℕ) → (n == n) ≡ true
-same_number n = (unsigned_Decides n n).1 refl
 
 taken_one : (number : ℕ) (w : Waiting) → is_in number w ≡ true → taken_from number (w ∷ []) ≡ w ∷ []
 taken_one number w h = ap (λ (b : Bool). cond b (w ∷ []) []) h
@@ -103,7 +95,7 @@ served_one script replay w queue e =
     let entries = entries_of (taken_from w.queue (w ∷ [])) in
     record {
       empty = left_one w.queue w (same_number w.queue);
-      batch = record { queue = queue.name; at = replay.clock; entries = entries; result = (ran_at script replay.book.world queue entries replay.clock).result };
+      batch = record { queue = queue.name; at = replay.clock; entries = entries; result = (ran_at script replay.book.world queue entries replay.clock).0.result };
       single = ap (λ (all : List Waiting). length (entries_of all)) (taken_one w.queue w (same_number w.queue));
       at_clock = refl;
       batches = ap (λ (found : Option QueueSpec). (added_to script replay.book found entries replay.clock).batches) e;
@@ -175,17 +167,8 @@ round_alone script replay valid few sound alone =
 
 -- ---- all rounds
 
-either_round : (script : Script) (b : Bool) (more last : Replay) → IsAlone script more → IsAlone script last → IsAlone script (if b then more else last)
-either_round script true more last h k = h
-either_round script false more last h k = k
-
 rounds_alone : (script : Script) (n : ℕ) (replay : Replay) → IsScript script → length script.clients ≤ 1 → IsSound script replay → IsAlone script replay → IsAlone script (rounds script n replay)
-unfolding rounds
-rounds_alone script zero replay valid few sound alone = alone
-rounds_alone script (suc n) replay valid few sound alone =
-    let next = round_alone script replay valid few sound alone in
-    either_round script (round_of script replay).acted (rounds script n (round_of script replay)) (round_of script replay)
-    (rounds_alone script n (round_of script replay) valid few (round_sound script replay valid sound) next) next
+rounds_alone script n replay valid few sound alone = rounds_keep script (IsAlone script) n replay valid (λ r s a. round_alone script r valid few s a) sound alone
 
 -- ---- every submit was performed
 

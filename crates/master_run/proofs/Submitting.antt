@@ -20,7 +20,7 @@ use Rattle.master_run.specs.Turns.{awaited_by, client_turn, next_at, seen_at, st
 use Rattle.master_run.proofs.Alls.{all_by, all_push}
 use Rattle.master_run.proofs.Bounds.{false_from, steps_few, stood}
 use Rattle.master_run.proofs.Holding.{awaited_set, held_awaited, held_submitted, seen_within, told_run}
-use Rattle.master_run.proofs.Keeping.{both_first, both_second}
+use Rattle.master_run.proofs.Keeping.{both_first, both_second, same_number}
 use Rattle.master_run.proofs.Taken.{queued, some_queue}
 
 -- ---- positions
@@ -119,9 +119,6 @@ await_sound script replay client earlier (Some batch) e none sound =
     }
 
 -- ---- the turn
-
-same_number : (n : ℕ) → (n == n) ≡ true
-same_number n = (unsigned_Decides n n).1 refl
 
 -- a step of the script is one of a client that there is
 pub client_within : (script : Script) (replay : Replay) (client number : ℕ) (step : Step) → length replay.positions ≡ length script.clients → step_at script client number ≡ Some step

@@ -14,26 +14,31 @@ use Rattle.scripts.specs.Built.{IsBuilt, is_built_step}
 use Rattle.executors.specs.Kinds.{accepts}
 use Rattle.scripts.proofs.Takes.{accepts_task_for}
 use Rattle.scripts.specs.Scripts.{IsScript}
-use Rattle.scripts.specs.Steps.{are_steps, is_client, is_queue_for, is_step}
+use Rattle.scripts.specs.ValidSteps.{are_steps, is_client, is_queue_for, is_step}
 use Rattle.session_law.specs.declared.batches.Batch.{Batch}
 use Rattle.session_law.specs.declared.batches.Entry.{Entry}
 use Rattle.session_law.specs.Histories.{IsOwn, Queued, is_named, is_own_step, kind_named, queued_in, queued_of, step_at, submitted, task_at, tasks_at}
-use Rattle.session_law.proofs.Counts.{filter_map_shorter}
-use Rattle.master_run.specs.Books.{Chronicle, IsKeptBook, noted, ran_at}
+use Rattle.master_run.specs.Books.{Chronicle, IsKeptBook, added, added_to, noted, ran_at}
 use Rattle.master_run.proofs.Bounds.{Stands, all_get, entries_few, stands, stood}
+use Rattle.master_run.proofs.Ending.{entries_count}
 use Rattle.master_run.proofs.Keeping.{both_first, both_second, named_kind, no_some, placed_push, some_same}
+
+-- ---- the queue is known
+
+joined : (script : Script) (book : Chronicle) (number : ℕ) (queue : QueueSpec) (entries : List Entry) (at : ℕ) → slice_get script.queues number ≡ Some queue
+    → IsKeptBook script (added script book number entries at) → IsKeptBook script (noted book queue entries at (ran_at script book.world queue entries at))
+joined script book number queue entries at e kept = subst (λ (found : Option QueueSpec). IsKeptBook script (added_to script book found entries at)) e kept
 
 -- ---- few
 
-pub few_tasks : (script : Script) (book : Chronicle) (queue : QueueSpec) (entries : List Entry) (at : ℕ) → IsScript script
-    → IsKeptBook script (noted book queue entries at (ran_at script book.world queue entries at)) → length (tasks_at script entries) < 2 ^ 32
-few_tasks script book queue entries at valid kept =
+pub few_entries : (script : Script) (book : Chronicle) (number : ℕ) (queue : QueueSpec) (entries : List Entry) (at : ℕ) → IsScript script → slice_get script.queues number ≡ Some queue
+    → IsKeptBook script (added script book number entries at) → length entries < 2 ^ 32
+few_entries script book number queue entries at valid e kept =
     let made = ran_at script book.world queue entries at in
-    let batch : Batch = record { queue = queue.name; at = at; entries = entries; result = made.result } in
-    let all = entries_few script (book.batches ++ batch ∷ []) made.world valid kept in
+    let batch : Batch = record { queue = queue.name; at = at; entries = entries; result = made.0.result } in
+    let all = entries_few script (book.batches ++ batch ∷ []) made.1 valid (joined script book number queue entries at e kept) in
     let longer : length (queued_of (book.batches ++ batch ∷ [])) ≡ length (queued_of book.batches) + length entries =
     ap length (placed_push book.batches batch) ∙ length-append (queued_of book.batches) (queued_in batch) ∙ ap (λ n. length (queued_of book.batches) + n) (length-map entries (λ e. record { queue = queue.name; entry = e })) in
-    let shorter = filter_map_shorter (task_at script) entries in
     omega arith
 
 -- ---- taken
@@ -123,11 +128,20 @@ own_last : (script : Script) (before more : List Queued) → AllByRecursion (IsO
 own_last script [] more own = own
 own_last script (placed ∷ before) more own = own_last script before more own.1
 
-pub tasks_taken : (script : Script) (book : Chronicle) (number : ℕ) (queue : QueueSpec) (entries : List Entry) (at : ℕ) → IsScript script
-    → slice_get script.queues number ≡ Some queue → IsKeptBook script (noted book queue entries at (ran_at script book.world queue entries at))
-    → list_all (accepts queue.executor) (tasks_at script entries) ≡ true
-tasks_taken script book number queue entries at valid e kept =
+-- the entries of a batch that joins are steps of the script
+own_entries : (script : Script) (book : Chronicle) (number : ℕ) (queue : QueueSpec) (entries : List Entry) (at : ℕ) → slice_get script.queues number ≡ Some queue
+    → IsKeptBook script (added script book number entries at) → AllByRecursion (IsOwn script) (map (λ e. record { queue = queue.name; entry = e }) entries)
+own_entries script book number queue entries at e kept =
     let made = ran_at script book.world queue entries at in
-    let batch : Batch = record { queue = queue.name; at = at; entries = entries; result = made.result } in
-    let own = subst (AllByRecursion (IsOwn script)) (placed_push book.batches batch) kept.serial.own in
-    entries_taken script number queue entries valid e (own_last script (queued_of book.batches) (queued_in batch) own)
+    let batch : Batch = record { queue = queue.name; at = at; entries = entries; result = made.0.result } in
+    let own = subst (AllByRecursion (IsOwn script)) (placed_push book.batches batch) (joined script book number queue entries at e kept).serial.own in
+    own_last script (queued_of book.batches) (queued_in batch) own
+
+pub each_task : (script : Script) (book : Chronicle) (number : ℕ) (queue : QueueSpec) (entries : List Entry) (at : ℕ) → slice_get script.queues number ≡ Some queue
+    → IsKeptBook script (added script book number entries at) → length (tasks_at script entries) ≡ length entries
+each_task script book number queue entries at e kept = entries_count script queue.name entries (own_entries script book number queue entries at e kept)
+
+pub tasks_taken : (script : Script) (book : Chronicle) (number : ℕ) (queue : QueueSpec) (entries : List Entry) (at : ℕ) → IsScript script
+    → slice_get script.queues number ≡ Some queue → IsKeptBook script (added script book number entries at) → list_all (accepts queue.executor) (tasks_at script entries) ≡ true
+tasks_taken script book number queue entries at valid e kept =
+    entries_taken script number queue entries valid e (own_entries script book number queue entries at e kept)

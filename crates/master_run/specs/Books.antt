@@ -10,7 +10,7 @@ use Rattle.session_law.specs.declared.worlds.Stepped.{Stepped}
 use Rattle.session_law.specs.declared.worlds.World.{World}
 use Rattle.session_law.specs.Histories.{IsKept, tasks_at}
 use Rattle.session_law.specs.Publications.{cut_by}
-use Rattle.session_law.specs.BatchSteps.{batch_step}
+use Rattle.session_law.specs.BatchSteps.{BatchInput, batch_step}
 use Rattle.session_law.specs.Worlds.{first_world}
 
 pub record Chronicle : Type 0 where
@@ -24,15 +24,25 @@ first_book script = record { batches = []; ends = []; world = first_world script
 abbrev pub IsKeptBook : Script → Chronicle → Type 0
 IsKeptBook script book = IsKept script book.batches book.world
 
--- what comes of entries of a queue that run at a moment, which is the reading of the commit too
-abbrev pub ran_at : Script → World → QueueSpec → List Entry → ℕ → Stepped
-ran_at script world queue entries at = batch_step (cut_by script.faults) script.nodes world queue.executor (tasks_at script entries) at
+-- what entries of a queue are run with at a moment, which is the reading of the commit too
+abbrev pub input_at : Script → QueueSpec → List Entry → ℕ → BatchInput
+input_at script queue entries at = record {
+  cut = cut_by script.faults;
+  nodes = script.nodes;
+  kind = queue.executor;
+  tasks = tasks_at script entries;
+  commit = at;
+}
 
-abbrev pub noted : Chronicle → QueueSpec → List Entry → ℕ → Stepped → Chronicle
+-- what comes of them, and the world after it
+abbrev pub ran_at : Script → World → QueueSpec → List Entry → ℕ → Stepped × World
+ran_at script world queue entries at = batch_step (input_at script queue entries at) world
+
+abbrev pub noted : Chronicle → QueueSpec → List Entry → ℕ → Stepped × World → Chronicle
 noted book queue entries at step = record {
-  batches = book.batches ++ record { queue = queue.name; at = at; entries = entries; result = step.result } ∷ [];
-  ends = step.ends;
-  world = step.world;
+  batches = book.batches ++ record { queue = queue.name; at = at; entries = entries; result = step.0.result } ∷ [];
+  ends = step.0.ends;
+  world = step.1;
 }
 
 abbrev pub added_to : Script → Chronicle → Option QueueSpec → List Entry → ℕ → Chronicle

@@ -1,8 +1,9 @@
 pub mod Books
-pub mod Outcomes
+pub mod Publishing
 pub mod Replays
 pub mod Rests
 pub mod Rooms
+pub mod SerialSessions
 pub mod Singles
 pub mod Soundness
 pub mod Tellings

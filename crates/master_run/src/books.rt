@@ -1,16 +1,13 @@
-ghost use Rattle.std.specs.Prelude.{◌≡◌, ◌<◌, ◌^◌, IfOk, OnOk, length};
+ghost use Rattle.std.specs.Prelude.{◌≡◌, ◌<◌, ◌^◌, IfOk, OnOk, length, slice_get};
 ghost use Rattle.scripts.specs.Scripts.{IsScript};
-ghost use Rattle.std.specs.Option.{option_copied};
-ghost use Rattle.session_law.specs.Histories.{task_at, tasks_at};
 ghost use Rattle.master_run.specs.Books.{IsKeptBook, added, first_book};
 
-use crate::batch_runs::run_batch;
+use crate::batch_steps::step_batch;
 use crate::first_worlds::open_world;
-use executors::Task;
-use scripts::{QueueSpec, Script, Step};
-use session_law::{Batch, Entry, TaskEnd, World};
 use meta_state::ClusterState;
 use plain_data::{Items, OutOfMemory};
+use scripts::{QueueSpec, Script};
+use session_law::{Batch, Entry, TaskEnd, World};
 use std::alloc::Global;
 use std::marker::Model;
 
@@ -56,8 +53,8 @@ impl Book {
         })
     }
 
-    /// Adds the batch of a queue, by its number, that takes these entries at a moment, in milliseconds, and commits
-    /// at it. The book has to stay kept.
+    /// Adds the batch of a queue of the script, by its number, that takes these entries at a moment, in milliseconds,
+    /// and commits at it. The book has to stay kept.
     pub fn add(
         &mut self,
         script: &Script,
@@ -66,26 +63,21 @@ impl Book {
         at: u64,
     ) -> Result<(), OutOfMemory>
         requires script { IsScript script.now }
+        requires queue { queue < length script.now.queues }
         requires kept { IsKeptBook script.now self.old }
         requires stays { IsKeptBook script.now (added script.now self.old queue entries.items at) }
         ensures added { OnOk result (self.new ≡ added script.now self.old queue entries.items at) }
         ensures kept { OnOk result (IsKeptBook script.now self.new) }
     {
-        let Some(spec) = script.queues.get(queue as usize) else {
-            return Ok(());
-        };
-        let tasks = copy_tasks(self.alloc, script, &entries)?;
-        let made = run_batch(self.alloc, script, &self.world, spec.executor, tasks, at)?;
+        let queue = queue_at(script, queue);
+        let made = step_batch(self.alloc, script, &mut self.world, queue, &entries, at)?;
         self.batches.push(Batch {
-            queue: spec.name.copy()?,
+            queue: queue.name.copy()?,
             at,
             entries: Items::from_vec(entries),
-            result: made.outcome,
+            result: made.result,
         })?;
         self.ends = made.ends;
-        if let Some(world) = made.world {
-            self.world = world;
-        }
         Ok(())
     }
 
@@ -122,26 +114,11 @@ impl Book {
     }
 }
 
-/// The tasks of entries, in order.
-fn copy_tasks(alloc: Global, script: &Script, entries: &[Entry]) -> Result<Vec<Task>, OutOfMemory>
-    ensures { IfOk result (λ made. made.items ≡ tasks_at script.now entries.now) }
+/// The queue of a number.
+#[tactic(auto, using(std::proofs::lemmas::Option::slice_get_read))]
+fn queue_at(script: &Script, number: u32) -> &QueueSpec
+    requires { number < length script.now.queues }
+    ensures { slice_get script.now.queues number ≡ Some result.now }
 {
-    let mut tasks = Vec::new(alloc);
-    for entry in entries {
-        if let Some(task) = task_of(script, entry) {
-            tasks.push(task.copy(alloc)?)?;
-        }
-    }
-    Ok(tasks)
-}
-
-/// The task of an entry.
-fn task_of<'a>(script: &'a Script, entry: &Entry) -> Option<&'a Task>
-    ensures { option_copied result ≡ task_at script.now entry.now }
-{
-    let steps = script.clients.get(entry.client as usize)?;
-    match steps.get(entry.step as usize)? {
-        Step::Submit { task, .. } => Some(task),
-        _ => None,
-    }
+    &script.queues.as_slice()[number as usize]
 }

@@ -1,9 +1,9 @@
 ghost use Rattle.std.specs.Prelude.{◌≡◌, [], IfOk, map};
 ghost use Rattle.session_law.specs.Worlds.{first_node, first_state_of, first_world, members_of};
 
-use scripts::{Script, ScriptNode};
 use meta_state::{ClusterState, NodeInfo};
 use plain_data::{Items, OutOfMemory};
+use scripts::{Script, ScriptNode};
 use session_law::{NodeWorld, World};
 use std::alloc::Global;
 

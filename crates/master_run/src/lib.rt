@@ -2,7 +2,7 @@
 //! one thread.
 #![tactic(auto)]
 
-mod batch_runs;
+mod batch_steps;
 mod books;
 mod first_worlds;
 mod publications;

@@ -1,17 +1,18 @@
 ghost use Rattle.std.specs.Prelude.{◌≡◌, ◌<◌, ◌^◌, IfOk, IfSome};
 ghost use Rattle.std.specs.List.{AllByRecursion};
 ghost use Rattle.plain_data.specs.Pairs.{lookup};
-ghost use Rattle.session_law.specs.Publications.{cut_by, electorate, does_commit, fault_at, is_eligible, is_fault_at, is_sent_diff, missed, passed_over, reach_all, reach_more, reach_none, reached};
+ghost use Rattle.session_law.specs.Publications.{cut_by, electorate, does_commit, fault_at, is_eligible, is_fault_at, is_sent_diff, reach_of};
+ghost use Rattle.master_run.specs.Publishing.{missed, passed_over, reach_all, reach_more, reach_none, reached};
 ghost use Rattle.master_run.specs.Rooms.{CanCount, CanSend, RisesByOne};
 
-use scripts::{Fault, FaultKind, Script};
 use meta_state::{ClusterState, NodeInfo};
 use plain_data::{Items, Map, OutOfMemory, Text};
+use scripts::{Fault, FaultKind, Script};
 use session_law::{NodeWorld, Reach, World};
 use std::alloc::Global;
 
 /// Publishes a new state to the nodes of a script, of which its faults cut some off: how far it reaches.
-#[tactic(auto, unfolding(session_law::specs::Publications::reach_all))]
+#[tactic(auto, using(crate::proofs::Counting::reach_all_is_reach_of), unfolding(crate::specs::Publishing::reach_all))]
 pub(crate) fn publish_to(
     alloc: Global,
     script: &Script,
@@ -19,7 +20,7 @@ pub(crate) fn publish_to(
     new: &ClusterState,
 ) -> Result<Reach, OutOfMemory>
     requires { AllByRecursion CanSend world.now.nodes }
-    ensures reach { IfOk result (λ made. made ≡ reach_all (cut_by script.now.faults) world.now.state new.now reach_none script.now.nodes world.now.nodes) }
+    ensures reach { IfOk result (λ made. made ≡ reach_of (cut_by script.now.faults) world.now.state new.now script.now.nodes world.now.nodes) }
     ensures counts { IfOk result CanCount }
 {
     let faults = script.faults.as_slice();

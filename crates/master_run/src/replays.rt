@@ -10,8 +10,8 @@ ghost use Rattle.master_run.specs.Turns.{awaited_by, client_turn, first_replay, 
 use crate::books::{Book, BookEnd};
 use crate::tellings::Told;
 use crate::waitings::{Parted, Waiting, entries_of, next_queue, part};
-use scripts::{Goal, Script, Step};
 use plain_data::{Items, OutOfMemory};
+use scripts::{Goal, Script, Step};
 use session_law::{Entry, Session};
 use std::alloc::Global;
 
@@ -162,7 +162,7 @@ impl Replay {
 
     /// The master's turn: it takes all that waits in one queue, and tells each client how its task ended. It does
     /// nothing where nothing waits.
-    #[tactic(auto, using(crate::proofs::Serving::turned_by_master, crate::proofs::Serving::taken_joins))]
+    #[tactic(auto, using(crate::proofs::Serving::turned_by_master, crate::proofs::Serving::served_within, crate::proofs::Serving::taken_joins))]
     fn master_turn(&mut self, alloc: Global, script: &Script) -> Result<(), OutOfMemory>
         requires script { IsScript script.now }
         requires sound { IsSound script.now self.old }

@@ -3,12 +3,13 @@ ghost use Rattle.scripts.specs.Built.{IsBuilt};
 ghost use Rattle.scripts.specs.Scripts.{IsScript};
 ghost use Rattle.master_run.specs.Replays.{most_rounds, performed, replayed, rounds};
 ghost use Rattle.master_run.specs.Rests.{IsAtRest};
+ghost use Rattle.master_run.specs.SerialSessions.{IsSerialSession};
 ghost use Rattle.master_run.specs.Singles.{AreSingles};
 ghost use Rattle.master_run.specs.Soundness.{IsSound};
 
 use crate::replays::Replay;
-use scripts::Script;
 use plain_data::OutOfMemory;
+use scripts::Script;
 use session_law::Session;
 use std::alloc::Global;
 
@@ -22,6 +23,9 @@ impl SerialCore {
         requires script { IsScript script.now }
         requires built { IsBuilt script.now }
         ensures replayed { IfOk result (λ made. made ≡ replayed script.now) }
+
+        // Its batches are those of a kept book, and its last state is the one after them.
+        ensures serial { IsSerialSession script.now (replayed script.now) }
 
         // Where the rounds end, nothing waits and no client has a step left.
         ensures rested { IsAtRest script.now (performed script.now) }

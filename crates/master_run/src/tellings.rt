@@ -2,8 +2,8 @@ ghost use Rattle.std.specs.Prelude.{◌≡◌, [], IfOk, OnOk};
 ghost use Rattle.master_run.specs.Tellings.{batch_told, replies_of, told_all, told_one};
 
 use crate::waitings::Waiting;
-use session_law::{Entry, Reply, TaskEnd};
 use plain_data::{Items, OutOfMemory};
+use session_law::{Entry, Reply, TaskEnd};
 use std::alloc::Global;
 use std::collections::BTreeMap;
 use std::marker::Model;

@@ -1,8 +1,8 @@
 ghost use Rattle.std.specs.Prelude.{◌≡◌, IfOk};
 ghost use Rattle.master_run.specs.Waitings.{entries_of, left_by, next_queue, rank_at, rank_of, sooner, taken_from};
 
-use scripts::{Priority, QueueSpec};
 use plain_data::{Items, OutOfMemory};
+use scripts::{Priority, QueueSpec};
 use session_law::Entry;
 use std::alloc::Global;
 

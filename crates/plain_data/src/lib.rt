@@ -12,8 +12,6 @@ mod pairs;
 mod paths;
 mod sets;
 mod shares;
-#[cfg(test)]
-mod tests;
 mod texts;
 mod trees;
 

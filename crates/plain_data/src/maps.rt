@@ -1,4 +1,4 @@
-ghost use Rattle.std.specs.Prelude.{◌≡◌, List, [], ℕ, ◌==◌, ◌&&◌, IfOk, OnOk, OnErr, length, is_some, IsTrue, ◌↔◌};
+ghost use Rattle.std.specs.Prelude.{◌≡◌, ◌≤◌, List, [], ℕ, ◌==◌, ◌&&◌, IfOk, OnOk, OnErr, length, is_some, IsTrue, ◌↔◌};
 ghost use Rattle.std.specs.Option.{option_copied};
 ghost use Rattle.std.specs.Ordering.{nat_cmp};
 ghost use Rattle.std.specs.List.Sorted.{IsStrictlySortedBy};
@@ -86,6 +86,14 @@ impl<V> Map<V> {
         Pairs::over(&self.tree)
     }
 
+    /// How many pairs stand on the longest way down: so many a look-up and a change meet at most. It costs a walk
+    /// over all pairs, for tests, by which alone it is shown to stay small.
+    pub fn depth(&self) -> usize
+        ensures { result ≤ length self.now }
+    {
+        self.tree.depth()
+    }
+
     /// An equal map, which shares all that this one has. It asks nothing of the values, and its cost
     /// doesn't grow with the map.
     pub fn copy(&self) -> Result<Map<V>, OutOfMemory>
@@ -119,14 +127,6 @@ impl<V: Drop> Map<V> {
     {
         self.tree = self.tree.without(self.alloc, key)?;
         Ok(())
-    }
-}
-
-#[cfg(test)]
-impl<V> Map<V> {
-    /// How many pairs stand on the longest way down.
-    pub(crate) fn depth(&self) -> usize {
-        self.tree.depth()
     }
 }
 

@@ -1,4 +1,4 @@
-ghost use Rattle.std.specs.Prelude.{◌≡◌, [], ◌∷◌, ◌++◌, length, IfOk, MatchOption};
+ghost use Rattle.std.specs.Prelude.{◌≡◌, ◌≤◌, [], ◌∷◌, ◌++◌, length, IfOk, MatchOption};
 ghost use Rattle.std.specs.Option.{option_copied};
 ghost use Rattle.plain_data.specs.Pairs.{lookup, with, without, InOrder};
 
@@ -88,6 +88,16 @@ impl<V> Tree<V> {
                 let node: &Node<V> = shared;
                 Some(node)
             }
+        }
+    }
+
+    /// How many nodes stand on the longest way down.
+    pub(crate) fn depth(&self) -> usize
+        ensures { result ≤ length self.now }
+    {
+        match self.node() {
+            None => 0,
+            Some(node) => node.left.depth().max(node.right.depth()).saturating_add(1),
         }
     }
 
@@ -199,17 +209,6 @@ impl<V: Drop> Tree<V> {
                     Ok(Some((first, others)))
                 }
             },
-        }
-    }
-}
-
-#[cfg(test)]
-impl<V> Tree<V> {
-    /// How many nodes stand on the longest way down.
-    pub(crate) fn depth(&self) -> usize {
-        match self.node() {
-            None => 0,
-            Some(node) => node.left.depth().max(node.right.depth()).saturating_add(1),
         }
     }
 }

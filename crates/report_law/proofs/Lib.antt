@@ -5,6 +5,7 @@ pub mod JsonData
 pub mod JsonLists
 pub mod JsonMaps
 pub mod JsonStrings
+pub mod Keys
 pub mod LineLists
 pub mod NodeTexts
 pub mod ReadTexts

@@ -1,6 +1,6 @@
 -- Lists of lines. Each line tells what it spells and where it ends, and begins with the first letter of its kind, so
 -- that the lines of one kind end where a line of another kind begins.
-use Rattle.std.specs.Prelude.{◌≡◌, ◌==◌, ℕ, Bool, true, false, List, [], ◌∷◌, ◌++◌, refl, IsTrue}
+use Rattle.std.specs.Prelude.{◌≡◌, ◌==◌, ℕ, Bool, false, List, [], ◌∷◌, ◌++◌, refl, IsTrue}
 use Rattle.std.proofs.Common.{sym, ap, ◌∙◌, subst}
 use Rattle.std.specs.List.{AllByRecursion, list_all}
 use Rattle.std.proofs.lemmas.Bool.{true≢false, and_parts, eqb-true}

@@ -1,9 +1,9 @@
 -- Good form: what a session must be for its report to tell it whole, as `reports_fix_sessions` says. All names are names,
 -- lists of names and maps are in byte order, no task stands twice in a batch, versions rise, and the lists of the session are
 -- in the order of their lines. It is this project's own.
-use Rattle.std.specs.Prelude.{ℕ, ◌&&◌, Bool, true, not, List, [], ◌∷◌, is_none, map, nat_lt, bytes_eq, IsTrue}
+use Rattle.std.specs.Prelude.{ℕ, ◌&&◌, Bool, true, List, is_none, map, nat_lt, bytes_eq, IsTrue}
 use Rattle.std.specs.Cmp.Lexicographic.{slice_cmp}
-use Rattle.std.specs.List.{list_all, list_any}
+use Rattle.std.specs.List.{list_all}
 use Rattle.std.specs.Map.{keys_of}
 use Rattle.std.specs.Ordering.{nat_cmp, is_lt}
 use Rattle.meta_state.specs.declared.index_metadata.IndexMetadata.{IndexMetadata}
@@ -15,6 +15,7 @@ use Rattle.meta_state.specs.Names.{name_fault}
 use Rattle.scripts.specs.Names.{are_distinct, is_name}
 use Rattle.executors.specs.SettingTasks.{is_key}
 use Rattle.session_law.specs.declared.batches.Entry.{Entry}
+use Rattle.session_law.specs.declared.node_records.Apply.{Apply}
 use Rattle.session_law.specs.declared.node_records.ApplyEnd.{ApplyEnd}
 use Rattle.session_law.specs.declared.node_records.ApplyEnd.TheVariants as end
 use Rattle.session_law.specs.declared.node_records.Change.{Change}
@@ -22,6 +23,7 @@ use Rattle.session_law.specs.declared.node_records.NodeRec.{NodeRec}
 use Rattle.session_law.specs.declared.node_records.View.{View}
 use Rattle.session_law.specs.declared.sessions.Session.{Session}
 use Rattle.session_law.specs.Histories.{is_same_task}
+use Rattle.report_law.specs.Apart.{are_apart_by}
 use Rattle.session_law.specs.Lawful.{AreInOrder, is_rising}
 use Rattle.session_law.specs.NodeLines.{applied_versions}
 
@@ -73,9 +75,13 @@ is_good_view view =
     list_all is_good_alias view.aliases && (are_listed is_index_name (keys_of view.aliases) &&
     (are_listed is_index_name (keys_of view.indices) && are_listed is_key (keys_of view.settings)))
 
--- the versions that the node was handed rise, and so do those that it applied
+abbrev pub is_apply_before : Apply → Apply → Bool
+is_apply_before a b = nat_lt a.to b.to
+
+-- the versions that the node was handed rise, and so do those of its apply lines, and those that it applied
 abbrev pub are_versions_rising : NodeRec → Bool
-are_versions_rising node = is_rising nat_lt node.handed && is_rising nat_lt (applied_versions node)
+are_versions_rising node =
+    is_rising nat_lt node.handed && (is_rising is_apply_before node.applies && is_rising nat_lt (applied_versions node))
 
 abbrev pub is_good_node : NodeRec → Bool
 is_good_node node =
@@ -83,10 +89,13 @@ is_good_node node =
 
 -- ---- batches
 
+-- the client and the step of an entry
+abbrev pub entry_key : Entry → ℕ × ℕ
+entry_key entry = (entry.client, entry.step)
+
 -- no two of the entries are of one task
 abbrev pub are_apart : List Entry → Bool
-are_apart [] = true
-are_apart (entry ∷ entries) = not (list_any (is_same_task entry) entries) && are_apart entries
+are_apart entries = are_apart_by is_same_task entries
 
 -- ---- reads
 

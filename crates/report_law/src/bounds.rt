@@ -1,9 +1,12 @@
 ghost use Rattle.std.specs.List.{AllByRecursion};
 ghost use Rattle.report_law.specs.Bounds.{IsBoundedAck, IsBoundedAckEnd, IsBoundedApply, IsBoundedApplyEnd, IsBoundedBatch, IsBoundedEnd, IsBoundedEntry, IsBoundedFound, IsBoundedIndex, IsBoundedLast, IsBoundedMetadata, IsBoundedNode, IsBoundedRead, IsBoundedReply, IsBoundedResult, IsBoundedSession, IsBoundedState, IsBoundedWatch, IsBoundedWatchEnd, IsWord};
 
-use session_law::{AckEnd, AckReply, Apply, ApplyEnd, Batch, BatchResult, Entry, NodeRec, Read, Reply, Session, TaskEnd, Watch, WatchEnd};
 use meta_state::{ClusterState, Found, IndexMetadata, Metadata};
 use plain_data::{Items, Map, Pairs};
+use session_law::{
+    AckEnd, AckReply, Apply, ApplyEnd, Batch, BatchResult, Entry, NodeRec, Read, Reply, Session,
+    TaskEnd, Watch, WatchEnd,
+};
 
 // A contract learns that a number is one of its type where code reads it. So what the types say of a whole session is
 // learnt by reading each of its numbers once.

@@ -1,34 +1,38 @@
-ghost use Rattle.std.specs.Prelude.{◌≡◌, ◌↔◌, ◌&&◌, IsTrue, bytes_eq, map, nat_lt, true};
-ghost use Rattle.std.specs.List.{list_all, list_any};
+ghost use Rattle.std.specs.Prelude.{◌≡◌, ◌↔◌, ◌&&◌, IfOk, IsTrue, map, nat_lt, true};
+ghost use Rattle.std.specs.List.{list_all};
 ghost use Rattle.std.specs.Map.{keys_of};
 ghost use Rattle.scripts.specs.Names.{are_distinct, is_name};
 ghost use Rattle.executors.specs.SettingTasks.{is_key};
-ghost use Rattle.report_law.specs.GoodForm.{IsGoodForm, IsNamedState, are_apart, are_listed, are_versions_rising, is_good_alias, is_good_apply, is_good_change, is_good_found, is_good_node, is_good_view, is_index_name, is_name_before, is_named_index, is_named_node};
-ghost use Rattle.session_law.specs.Histories.{is_same_task};
+ghost use Rattle.report_law.specs.GoodForm.{IsGoodForm, IsNamedState, are_apart, are_listed, are_versions_rising, entry_key, is_apply_before, is_good_alias, is_good_apply, is_good_change, is_good_found, is_good_node, is_good_view, is_index_name, is_name_before, is_named_index, is_named_node};
 ghost use Rattle.session_law.specs.Lawful.{AreInOrder, is_ack_before, is_before, is_read_before, is_reply_before, is_rising, is_watch_before};
 ghost use Rattle.session_law.specs.NodeLines.{applied_versions};
 
-use session_law::{AckReply, Apply, ApplyEnd, Batch, Change, Entry, NodeRec, Read, Reply, Session, View, Watch};
+use crate::apart::are_keys_apart;
 use executors::is_setting_key;
-use scripts::is_a_name;
 use meta_state::{ClusterState, Found, IndexMetadata, Metadata, NodeInfo, check_index_name};
-use plain_data::{Items, Map, NameSet, Text};
+use plain_data::{Items, Map, NameSet, OutOfMemory, Text};
+use scripts::is_a_name;
+use session_law::{
+    AckReply, Apply, ApplyEnd, Batch, Change, Entry, NodeRec, Read, Reply, Session, View, Watch,
+};
+use std::alloc::Global;
 
 /// Whether a session is of good form, so that its report tells it whole: all its names are names, all its lists are in
-/// order, no task stands twice in a batch, and no node has two records.
-///
-/// It walks the session once, but compares the entries of each batch, and the names of the nodes, pair by pair: its
-/// time grows with the square of the longest batch.
-pub fn is_good_form(session: &Session) -> bool
-    ensures { IsTrue result ↔ IsGoodForm session.now }
+/// order, no task stands twice in a batch, and no node has two records. It walks the session once, and looks each entry
+/// of a batch, and each node's name, up among those before it: a session of n parts costs n log n steps.
+pub fn is_good_form(alloc: Global, session: &Session) -> Result<bool, OutOfMemory>
+    ensures { IfOk result (λ good. IsTrue good ↔ IsGoodForm session.now) }
 {
-    are_queues_named(session.batches.as_slice())
-        && are_tasks_apart(session.batches.as_slice())
+    let apart = are_tasks_apart(alloc, session.batches.as_slice())?;
+    let distinct = are_nodes_distinct(alloc, session.nodes.as_slice())?;
+    let good = apart
+        && distinct
+        && are_queues_named(session.batches.as_slice())
         && is_in_order(session)
         && are_looks_good(session.reads.as_slice())
         && are_nodes_good(session.nodes.as_slice())
-        && are_nodes_distinct(session.nodes.as_slice())
-        && is_state_named(&session.last)
+        && is_state_named(&session.last);
+    Ok(good)
 }
 
 // ---- names
@@ -251,10 +255,18 @@ fn are_applied_rising(node: &NodeRec) -> bool
     true
 }
 
+fn are_applies_rising(applies: &[Apply]) -> bool
+    ensures { result ≡ is_rising is_apply_before applies.now }
+{
+    applies.is_sorted_by(|a, b| a.to < b.to)
+}
+
 fn do_versions_rise(node: &NodeRec) -> bool
     ensures { result ≡ are_versions_rising node.now }
 {
-    are_numbers_rising(node.handed.as_slice()) && are_applied_rising(node)
+    are_numbers_rising(node.handed.as_slice())
+        && are_applies_rising(node.applies.as_slice())
+        && are_applied_rising(node)
 }
 
 fn is_node_good(node: &NodeRec) -> bool
@@ -272,28 +284,21 @@ fn are_nodes_good(nodes: &[NodeRec]) -> bool
     nodes.iter().all(|node| is_node_good(node))
 }
 
-fn is_named_among(name: &Text, nodes: &[NodeRec]) -> bool
-    ensures { result ≡ list_any (bytes_eq name.now) (map (λ r. r.node) nodes.now) }
+fn node_names(alloc: Global, nodes: &[NodeRec]) -> Result<Vec<Text>, OutOfMemory>
+    ensures { IfOk result (λ made. made.items ≡ map (λ r. r.node) nodes.now) }
 {
+    let mut names = Vec::new(alloc);
     for node in nodes {
-        if *name == node.node {
-            return true;
-        }
+        names.push(node.node.copy()?)?;
     }
-    false
+    Ok(names)
 }
 
-fn are_nodes_distinct(nodes: &[NodeRec]) -> bool
-    ensures { result ≡ are_distinct (map (λ r. r.node) nodes.now) }
+#[tactic(auto, using(crate::proofs::Keys::names_by_order))]
+fn are_nodes_distinct(alloc: Global, nodes: &[NodeRec]) -> Result<bool, OutOfMemory>
+    ensures { IfOk result (λ apart. apart ≡ are_distinct (map (λ r. r.node) nodes.now)) }
 {
-    let mut left = nodes;
-    while let Some((node, others)) = left.split_first() {
-        if is_named_among(&node.node, others) {
-            return false;
-        }
-        left = others;
-    }
-    true
+    are_keys_apart(alloc, node_names(alloc, nodes)?)
 }
 
 // ---- batches
@@ -304,37 +309,31 @@ fn are_queues_named(batches: &[Batch]) -> bool
     batches.iter().all(|batch| is_a_name(batch.queue.as_str()))
 }
 
-fn is_one_task(a: &Entry, b: &Entry) -> bool
-    ensures { result ≡ is_same_task a.now b.now }
+fn entry_keys(alloc: Global, entries: &[Entry]) -> Result<Vec<(u32, u32)>, OutOfMemory>
+    ensures { IfOk result (λ made. made.items ≡ map entry_key entries.now) }
 {
-    a.client == b.client && a.step == b.step
-}
-
-fn is_task_among(entry: &Entry, entries: &[Entry]) -> bool
-    ensures { result ≡ list_any (is_same_task entry.now) entries.now }
-{
-    entries.iter().any(|other| is_one_task(entry, other))
-}
-
-fn are_entries_apart(entries: &[Entry]) -> bool
-    ensures { result ≡ are_apart entries.now }
-{
-    let mut left = entries;
-    while let Some((entry, others)) = left.split_first() {
-        if is_task_among(entry, others) {
-            return false;
-        }
-        left = others;
+    let mut keys = Vec::new(alloc);
+    for entry in entries {
+        keys.push((entry.client, entry.step))?;
     }
-    true
+    Ok(keys)
 }
 
-fn are_tasks_apart(batches: &[Batch]) -> bool
-    ensures { result ≡ list_all (λ b. are_apart b.entries) batches.now }
+fn are_entries_apart(alloc: Global, entries: &[Entry]) -> Result<bool, OutOfMemory>
+    ensures { IfOk result (λ apart. apart ≡ are_apart entries.now) }
 {
-    batches
-        .iter()
-        .all(|batch| are_entries_apart(batch.entries.as_slice()))
+    are_keys_apart(alloc, entry_keys(alloc, entries)?)
+}
+
+fn are_tasks_apart(alloc: Global, batches: &[Batch]) -> Result<bool, OutOfMemory>
+    ensures { IfOk result (λ apart. apart ≡ list_all (λ b. are_apart b.entries) batches.now) }
+{
+    for batch in batches {
+        if !are_entries_apart(alloc, batch.entries.as_slice())? {
+            return Ok(false);
+        }
+    }
+    Ok(true)
 }
 
 // ---- the order of lists

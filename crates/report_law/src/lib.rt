@@ -1,6 +1,7 @@
 //! The law that a report fixes its session, and the good form that it asks for.
 #![tactic(auto)]
 
+mod apart;
 mod bounds;
 mod good_forms;
 mod laws;

@@ -1,4 +1,4 @@
 pub mod Built
 pub mod Names
 pub mod Scripts
-pub mod Steps
+pub mod ValidSteps

@@ -2,7 +2,7 @@
 -- book holds no more tasks than its script has steps.
 use Rattle.std.specs.Prelude.{◌≡◌, ℕ, ◌+◌, ◌≤◌, Bool, true, false, not, ◌&&◌, List, [], ◌∷◌, ◌++◌, length, map, fold, filter_map, Option, Some, None, is_some, refl, if◌then◌else◌}
 use Rattle.std.proofs.Common.{sym, subst, arith}
-use Rattle.std.specs.List.{AllByRecursion, cons_option}
+use Rattle.std.specs.List.{AllByRecursion, cons_option, zip}
 use Rattle.std.proofs.lemmas.List.{length-append, length-map}
 use Rattle.plain_data.specs.Pairs.{lookup}
 use Rattle.meta_state.specs.declared.cluster_state.ClusterState.{ClusterState}
@@ -13,10 +13,8 @@ use Rattle.meta_state.specs.Versions.{content_of, contents_of, metadata_version,
 use Rattle.executors.specs.declared.contexts.Mark.{Mark}
 use Rattle.executors.specs.declared.executions.Executed.{Executed}
 use Rattle.executors.specs.declared.executions.Executed.TheVariants.{Made, Failed}
-use Rattle.executors.specs.declared.kinds.Kind.{Kind}
 use Rattle.scripts.specs.declared.whole_script.Script.{Script}
 use Rattle.scripts.specs.declared.whole_script.ScriptNode.{ScriptNode}
-use Rattle.executors.specs.declared.tasks.Task.{Task}
 use Rattle.executors.specs.Contexts.{numbered}
 use Rattle.executors.specs.Executions.{executed}
 use Rattle.executors.specs.Kinds.{needs_master}
@@ -26,9 +24,9 @@ use Rattle.session_law.specs.declared.worlds.NodeWorld.{NodeWorld}
 use Rattle.session_law.specs.declared.worlds.Reach.{Reach}
 use Rattle.session_law.specs.declared.worlds.Stepped.{Stepped}
 use Rattle.session_law.specs.declared.worlds.World.{World}
-use Rattle.session_law.specs.Histories.{after, tasks_at, task_at, kind_named, commit_of, world_after, queued_of, queued_in, Queued}
-use Rattle.session_law.specs.Publications.{cut_by, reach_all, reach_more, reach_none, passed_over, missed, reached, is_sent_diff, does_commit}
-use Rattle.session_law.specs.BatchSteps.{batch_step, executed_step, next_step, commit_step, drop_step}
+use Rattle.session_law.specs.Histories.{Queued, after, input_of, queued_in, queued_of, task_at, tasks_at, world_after}
+use Rattle.session_law.specs.Publications.{does_accept, does_commit, reach_of, sent_more, sent_on}
+use Rattle.session_law.specs.BatchSteps.{BatchInput, batch_step, commit_step, drop_step, executed_step, next_step}
 use Rattle.session_law.specs.Worlds.{first_world, first_node, first_state_of}
 
 -- ---- a world after n tasks and p batches
@@ -45,10 +43,6 @@ sent_later : (p q : ℕ) (nodes : List NodeWorld) → p ≤ q → AllByRecursion
 sent_later p q [] h c = tt
 sent_later p q (node ∷ nodes) h c = ((let x = c.0 in omega arith), sent_later p q nodes h c.1)
 
-sent_push : (p : ℕ) (nodes : List NodeWorld) (node : NodeWorld) → AllByRecursion (λ node. node.sent ≤ p) nodes → node.sent ≤ p → AllByRecursion (λ node. node.sent ≤ p) (nodes ++ node ∷ [])
-sent_push p [] node c h = (h, tt)
-sent_push p (first ∷ nodes) node c h = (c.0, sent_push p nodes node c.1 h)
-
 later : (n m p q : ℕ) (world : World) → n ≤ m → p ≤ q → IsCounted n p world → IsCounted m q world
 later n m p q world h k c = record {
   id = let x = c.id in omega arith;
@@ -59,32 +53,28 @@ later n m p q world h k c = record {
   sent = sent_later p q world.nodes k c.sent;
 }
 
-more_sent : (cut : List ℕ → ℕ → Bool) (prev new : ClusterState) (p : ℕ) (reach : Reach) (name : List ℕ) (has : NodeWorld) (in_state away by_diff : Bool)
-    → AllByRecursion (λ node. node.sent ≤ p + 1) reach.nodes → has.sent ≤ p
-    → AllByRecursion (λ node. node.sent ≤ p + 1) (if not in_state then passed_over reach has else (if away then missed reach has else reached new reach name has by_diff)).nodes
-more_sent cut prev new p reach name has false away by_diff c h = sent_push (p + 1) reach.nodes has c (omega arith)
-more_sent cut prev new p reach name has true true by_diff c h = sent_push (p + 1) reach.nodes (record has { sent = has.sent + 1 }) c (omega arith)
-more_sent cut prev new p reach name has true false by_diff c h = sent_push (p + 1) reach.nodes (record { accepted = new; sent = has.sent + 1 }) c (omega arith)
+-- a node is sent one publication more, or none
+one_sent : (inside accepts : Bool) (new : ClusterState) (has : NodeWorld) (p : ℕ) → has.sent ≤ p → (if inside then sent_more new has accepts else has).sent ≤ p + 1
+one_sent false accepts new has p h = omega arith
+one_sent true true new has p h = omega arith
+one_sent true false new has p h = omega arith
 
-reach_sent : (cut : List ℕ → ℕ → Bool) (prev new : ClusterState) (p : ℕ) (reach : Reach) (nodes : List ScriptNode) (have : List NodeWorld)
-    → AllByRecursion (λ node. node.sent ≤ p + 1) reach.nodes → AllByRecursion (λ node. node.sent ≤ p) have
-    → AllByRecursion (λ node. node.sent ≤ p + 1) (reach_all cut prev new reach nodes have).nodes
-unfolding reach_all
-reach_sent cut prev new p reach [] have c h = c
-reach_sent cut prev new p reach (node ∷ nodes) [] c h = c
-reach_sent cut prev new p reach (node ∷ nodes) (has ∷ more) c h =
-    reach_sent cut prev new p (reach_more cut prev new reach node.name has) nodes more
-    (more_sent cut prev new p reach node.name has (is_some (lookup node.name new.nodes)) (cut node.name (has.sent + 1)) (is_sent_diff prev node.name has) c h.0) h.1
+reach_sent : (cut : List ℕ → ℕ → Bool) (new : ClusterState) (p : ℕ) (nodes : List ScriptNode) (have : List NodeWorld) → AllByRecursion (λ node. node.sent ≤ p) have
+    → AllByRecursion (λ node. node.sent ≤ p + 1) (map (sent_on cut new) (zip nodes have))
+reach_sent cut new p [] have h = tt
+reach_sent cut new p (node ∷ nodes) [] h = tt
+reach_sent cut new p (node ∷ nodes) (has ∷ more) h =
+    (one_sent (is_some (lookup node.name new.nodes)) (does_accept cut new (node, has)) new has p h.0, reach_sent cut new p nodes more h.1)
 
 metadata_rises : (b : Bool) (v : ℕ) → (if b then v else v + 1) ≤ v + 1
 metadata_rises true v = omega arith
 metadata_rises false v = omega arith
 
-publish_counted : (commits : Bool) (n m p : ℕ) (world : World) (kind : Kind) (count commit : ℕ) (made : ClusterState) (marks : List Mark) (reach : Reach)
+publish_counted : (commits : Bool) (n m p : ℕ) (input : BatchInput) (world : World) (made : ClusterState) (marks : List Mark) (reach : Reach)
     → IsCounted n p world → IsCountedState m made → n ≤ m → AllByRecursion (λ node. node.sent ≤ p + 1) reach.nodes
     → let new = stamped made (world.proposals + 2) (world.state.version + 1) (metadata_version world.state.metadata made.metadata) in
-    IsCounted m (p + 1) (if commits then commit_step world kind commit new marks reach else drop_step world count new reach).world
-publish_counted true n m p world kind count commit made marks reach c s h r = record {
+    IsCounted m (p + 1) (if commits then commit_step input world new marks reach else drop_step input world new reach).1
+publish_counted true n m p input world made marks reach c s h r = record {
   id = let x = c.proposals in omega arith;
   version = let x = c.version in omega arith;
   metadata_version = let x = c.metadata_version in let y = metadata_rises (metadata_eq (contents_of world.state.metadata) (contents_of made.metadata)) world.state.metadata.version in omega arith;
@@ -92,7 +82,7 @@ publish_counted true n m p world kind count commit made marks reach c s h r = re
   proposals = let x = c.proposals in omega arith;
   sent = r;
 }
-publish_counted false n m p world kind count commit made marks reach c s h r = record {
+publish_counted false n m p input world made marks reach c s h r = record {
   id = let x = c.id in omega arith;
   version = let x = c.version in omega arith;
   metadata_version = let x = c.metadata_version in omega arith;
@@ -101,35 +91,35 @@ publish_counted false n m p world kind count commit made marks reach c s h r = r
   sent = r;
 }
 
-next_counted : (same : Bool) (cut : List ℕ → ℕ → Bool) (nodes : List ScriptNode) (n m p : ℕ) (world : World) (kind : Kind) (count commit : ℕ) (made : ClusterState) (marks : List Mark)
+next_counted : (same : Bool) (n m p : ℕ) (input : BatchInput) (world : World) (made : ClusterState) (marks : List Mark)
     → IsCounted n p world → IsCountedState m made → n ≤ m
-    → IsCounted m (p + 1) (next_step cut nodes world kind count commit marks
-    (if same then Same else Changed (stamped made (world.proposals + 2) (world.state.version + 1) (metadata_version world.state.metadata made.metadata)))).world
-next_counted true cut nodes n m p world kind count commit made marks c s h = later n m p (p + 1) world h (omega arith) c
-next_counted false cut nodes n m p world kind count commit made marks c s h =
+    → IsCounted m (p + 1) (next_step input world marks
+    (if same then Same else Changed (stamped made (world.proposals + 2) (world.state.version + 1) (metadata_version world.state.metadata made.metadata)))).1
+unfolding reach_of
+next_counted true n m p input world made marks c s h = later n m p (p + 1) world h (omega arith) c
+next_counted false n m p input world made marks c s h =
     let new = stamped made (world.proposals + 2) (world.state.version + 1) (metadata_version world.state.metadata made.metadata) in
-    let reach = reach_all cut world.state new reach_none nodes world.nodes in
-    publish_counted (does_commit new reach) n m p world kind count commit made marks reach c s h
-    (reach_sent cut world.state new p reach_none nodes world.nodes tt c.sent)
+    let reach = reach_of input.cut world.state new input.nodes world.nodes in
+    publish_counted (does_commit new reach) n m p input world made marks reach c s h (reach_sent input.cut new p input.nodes world.nodes c.sent)
 
-office_counted : (refused : Bool) (n m p : ℕ) (world : World) (none some : Stepped) → none.world ≡ world → IsCounted n p world → n ≤ m → IsCounted m (p + 1) some.world
-    → IsCounted m (p + 1) (if refused then none else some).world
+office_counted : (refused : Bool) (n m p : ℕ) (world : World) (none some : Stepped × World) → none.1 ≡ world → IsCounted n p world → n ≤ m → IsCounted m (p + 1) some.1
+    → IsCounted m (p + 1) (if refused then none else some).1
 office_counted true n m p world none some e c h s = subst (IsCounted m (p + 1)) (sym e) (later n m p (p + 1) world h (omega arith) c)
 office_counted false n m p world none some e c h s = s
 
-executed_step_counted : (cut : List ℕ → ℕ → Bool) (nodes : List ScriptNode) (n m p : ℕ) (world : World) (kind : Kind) (count commit : ℕ) (made : Executed)
-    → IsCounted n p world → n ≤ m → IsCountedResult m made → IsCounted m (p + 1) (executed_step cut nodes world kind count commit made).world
-executed_step_counted cut nodes n m p world kind count commit (Failed position refusal) c h s = later n m p (p + 1) world h (omega arith) c
-executed_step_counted cut nodes n m p world kind count commit (Made state marks) c h s =
-    next_counted (state_eq (content_of world.state) (content_of state)) cut nodes n m p world kind count commit state marks c s h
+executed_step_counted : (n m p : ℕ) (input : BatchInput) (world : World) (made : Executed)
+    → IsCounted n p world → n ≤ m → IsCountedResult m made → IsCounted m (p + 1) (executed_step input world made).1
+executed_step_counted n m p input world (Failed position refusal) c h s = later n m p (p + 1) world h (omega arith) c
+executed_step_counted n m p input world (Made state marks) c h s =
+    next_counted (state_eq (content_of world.state) (content_of state)) n m p input world state marks c s h
 
-pub step_counted : (cut : List ℕ → ℕ → Bool) (nodes : List ScriptNode) (n p : ℕ) (world : World) (kind : Kind) (tasks : List Task) (commit : ℕ)
-    → IsCounted n p world → IsCounted (n + length tasks) (p + 1) (batch_step cut nodes world kind tasks commit).world
+pub step_counted : (n p : ℕ) (input : BatchInput) (world : World) → IsCounted n p world → IsCounted (n + length input.tasks) (p + 1) (batch_step input world).1
 unfolding batch_step
-step_counted cut nodes n p world kind tasks commit c =
-    office_counted (needs_master kind && not world.in_office) n (n + length tasks) p world _ _ refl c (omega arith)
-    (executed_step_counted cut nodes n (n + length tasks) p world kind (length tasks) commit (executed kind world.state (numbered 0 tasks)) c (omega arith)
-    (executed_counted n kind world.state tasks c.state))
+step_counted n p input world c =
+    let m = n + length input.tasks in
+    office_counted (needs_master input.kind && not world.in_office) n m p world _ _ refl c (omega arith)
+    (executed_step_counted n m p input world (executed input.kind world.state (numbered 0 input.tasks)) c (omega arith)
+    (executed_counted n input.kind world.state input.tasks c.state))
 
 -- ---- a history
 
@@ -148,7 +138,7 @@ batch_counted script n p world batch c =
     let tasks = tasks_at script batch.entries in
     let shorter = filter_map_shorter (task_at script) batch.entries in
     later (n + length tasks) (n + length batch.entries) (p + 1) (p + 1) (after script world batch) (omega arith) (omega arith)
-    (step_counted (cut_by script.faults) script.nodes n p world (kind_named script.queues batch.queue) tasks (commit_of batch.result) c)
+    (step_counted n p (input_of script batch) world c)
 
 pub placed_count : (batch : Batch) (more : List Queued) → length (queued_in batch ++ more) ≡ length batch.entries + length more
 placed_count batch more = simp (length-append, length-map) refl

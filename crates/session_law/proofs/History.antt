@@ -1,5 +1,5 @@
 -- What one batch does to the current state, and from it: the committed versions rise by one; and no task stands twice.
-use Rattle.std.specs.Prelude.{◌≡◌, ℕ, ◌+◌, ◌≤◌, ◌&&◌, ◌||◌, Bool, true, false, not, List, [], ◌∷◌, ◌++◌, count_by, length, map, refl, if◌then◌else◌}
+use Rattle.std.specs.Prelude.{◌≡◌, ℕ, ◌+◌, ◌≤◌, ◌&&◌, ◌||◌, Bool, true, false, not, List, [], ◌∷◌, ◌++◌, count_by, filter, fold, map, refl, if◌then◌else◌}
 use Rattle.std.proofs.Common.{sym, subst, ap, ◌∙◌, cond, arith}
 use Rattle.std.specs.List.{AllByRecursion, cons_option, list_any}
 use Rattle.std.proofs.lemmas.Bool.{true≢false}
@@ -12,10 +12,7 @@ use Rattle.meta_state.specs.Versions.{content_of, metadata_version, stamped}
 use Rattle.executors.specs.declared.contexts.Mark.{Mark}
 use Rattle.executors.specs.declared.executions.Executed.{Executed}
 use Rattle.executors.specs.declared.executions.Executed.TheVariants.{Made, Failed}
-use Rattle.executors.specs.declared.kinds.Kind.{Kind}
 use Rattle.scripts.specs.declared.whole_script.Script.{Script}
-use Rattle.scripts.specs.declared.whole_script.ScriptNode.{ScriptNode}
-use Rattle.executors.specs.declared.tasks.Task.{Task}
 use Rattle.executors.specs.Contexts.{numbered}
 use Rattle.executors.specs.Executions.{executed}
 use Rattle.executors.specs.Kinds.{needs_master}
@@ -26,59 +23,62 @@ use Rattle.session_law.specs.declared.batches.Entry.{Entry}
 use Rattle.session_law.specs.declared.worlds.Reach.{Reach}
 use Rattle.session_law.specs.declared.worlds.Stepped.{Stepped}
 use Rattle.session_law.specs.declared.worlds.World.{World}
-use Rattle.session_law.specs.Committed.{committed_on, is_published}
-use Rattle.session_law.specs.Histories.{AreApart, AreResults, IsApart, Queued, after, commit_of, is_same_task, kind_named, queued_in, queued_of, stepped, tasks_at}
+use Rattle.session_law.specs.Committed.{committed_in, is_published}
+use Rattle.session_law.specs.Histories.{AreApart, IsApart, Queued, SteppedBatch, after, history_on, input_of, is_same_task, queued_in, queued_of, stepped}
 use Rattle.session_law.specs.Laws.{AreConsecutive, KeepsState, OthersKeepTheState, TasksStandOnce, VersionsAreInOrder, published_version, published_versions}
 use Rattle.session_law.specs.Outcomes.{holds, is_task}
-use Rattle.session_law.specs.Publications.{cut_by, does_commit, reach_all, reach_none}
-use Rattle.session_law.specs.BatchSteps.{batch_step, commit_step, drop_step, executed_step, next_step}
+use Rattle.session_law.specs.Publications.{does_commit, reach_of}
+use Rattle.session_law.specs.BatchSteps.{BatchInput, batch_step, commit_step, drop_step, executed_step, next_step}
 use Rattle.session_law.specs.Worlds.{first_world}
 
 -- ---- one batch
 
-publish_keeps : (commits : Bool) (world : World) (kind : Kind) (count commit : ℕ) (new : ClusterState) (marks : List Mark) (reach : Reach)
-    → new.version ≡ world.state.version + 1
-    → let step = if commits then commit_step world kind commit new marks reach else drop_step world count new reach in
-    KeepsState world step.result step.world
-publish_keeps true world kind count commit new marks reach e = (e, refl)
-publish_keeps false world kind count commit new marks reach e = (refl, refl)
+publish_keeps : (commits : Bool) (input : BatchInput) (world : World) (new : ClusterState) (marks : List Mark) (reach : Reach) → new.version ≡ world.state.version + 1
+    → let step = if commits then commit_step input world new marks reach else drop_step input world new reach in KeepsState world step.0.result step.1
+publish_keeps true input world new marks reach e = (e, refl)
+publish_keeps false input world new marks reach e = (refl, refl)
 
-next_keeps : (same : Bool) (cut : List ℕ → ℕ → Bool) (nodes : List ScriptNode) (world : World) (kind : Kind) (count commit : ℕ) (made : ClusterState) (marks : List Mark)
+next_keeps : (same : Bool) (input : BatchInput) (world : World) (made : ClusterState) (marks : List Mark)
     → let next = if same then Same else Changed (stamped made (world.proposals + 2) (world.state.version + 1) (metadata_version world.state.metadata made.metadata)) in
-    let step = next_step cut nodes world kind count commit marks next in
-    KeepsState world step.result step.world
-next_keeps true cut nodes world kind count commit made marks = (refl, refl)
-next_keeps false cut nodes world kind count commit made marks =
+    let step = next_step input world marks next in
+    KeepsState world step.0.result step.1
+next_keeps true input world made marks = (refl, refl)
+next_keeps false input world made marks =
     let new = stamped made (world.proposals + 2) (world.state.version + 1) (metadata_version world.state.metadata made.metadata) in
-    let reach = reach_all cut world.state new reach_none nodes world.nodes in
-    publish_keeps (does_commit new reach) world kind count commit new marks reach refl
+    let reach = reach_of input.cut world.state new input.nodes world.nodes in
+    publish_keeps (does_commit new reach) input world new marks reach refl
 
-executed_keeps : (cut : List ℕ → ℕ → Bool) (nodes : List ScriptNode) (world : World) (kind : Kind) (count commit : ℕ) (made : Executed)
-    → let step = executed_step cut nodes world kind count commit made in KeepsState world step.result step.world
-executed_keeps cut nodes world kind count commit (Failed position refusal) = refl
-executed_keeps cut nodes world kind count commit (Made state marks) =
-    next_keeps (state_eq (content_of world.state) (content_of state)) cut nodes world kind count commit state marks
+executed_keeps : (input : BatchInput) (world : World) (made : Executed) → let step = executed_step input world made in KeepsState world step.0.result step.1
+executed_keeps input world (Failed position refusal) = refl
+executed_keeps input world (Made state marks) = next_keeps (state_eq (content_of world.state) (content_of state)) input world state marks
 
-office_keeps : (refused : Bool) (world : World) (none some : Stepped) → KeepsState world none.result none.world → KeepsState world some.result some.world
-    → let step = if refused then none else some in KeepsState world step.result step.world
+office_keeps : (refused : Bool) (world : World) (none some : Stepped × World) → KeepsState world none.0.result none.1 → KeepsState world some.0.result some.1
+    → let step = if refused then none else some in KeepsState world step.0.result step.1
 office_keeps true world none some a b = a
 office_keeps false world none some a b = b
 
-step_keeps : (cut : List ℕ → ℕ → Bool) (nodes : List ScriptNode) (world : World) (kind : Kind) (tasks : List Task) (commit : ℕ)
-    → let step = batch_step cut nodes world kind tasks commit in KeepsState world step.result step.world
+step_keeps : (input : BatchInput) (world : World) → let step = batch_step input world in KeepsState world step.0.result step.1
 unfolding batch_step
-step_keeps cut nodes world kind tasks commit =
-    office_keeps (needs_master kind && not world.in_office) world _ _ refl
-    (executed_keeps cut nodes world kind (length tasks) commit (executed kind world.state (numbered 0 tasks)))
+step_keeps input world =
+    office_keeps (needs_master input.kind && not world.in_office) world _ _ refl
+    (executed_keeps input world (executed input.kind world.state (numbered 0 input.tasks)))
 
 pub others_keep_the_state : OthersKeepTheState
-others_keep_the_state script world batch =
-    step_keeps (cut_by script.faults) script.nodes world (kind_named script.queues batch.queue) (tasks_at script batch.entries) (commit_of batch.result)
+others_keep_the_state script world batch = step_keeps (input_of script batch) world
 
 -- a batch that has its result
-result_keeps : (script : Script) (world : World) (batch : Batch) → batch.result ≡ (stepped script world batch).result → KeepsState world batch.result (after script world batch)
+result_keeps : (script : Script) (world : World) (batch : Batch) → batch.result ≡ (stepped script world batch).0.result → KeepsState world batch.result (after script world batch)
 result_keeps script world batch e =
     let P : BatchResult → Type 0 = λ r. KeepsState world r (after script world batch) in subst P (sym e) (others_keep_the_state script world batch)
+
+-- ---- a history of more batches
+
+pub history_append : (script : Script) (world : World) (batches more : List Batch)
+    → history_on script world (batches ++ more) ≡ history_on script world batches ++ history_on script (fold (after script) world batches) more
+history_append script world [] more = refl
+history_append script world (batch ∷ batches) more = λ i.
+    record { batch = batch; stepped = (stepped script world batch).0; world = after script world batch } ∷
+    history_append script (after script world batch) batches more i
 
 -- ---- versions
 
@@ -91,27 +91,31 @@ one_more (result.Failed position refusal) old new n vs k e more = more n (ap (λ
 one_more result.NotMaster old new n vs k e more = more n (ap (λ (w : World). w.state.version + 1) k ∙ e)
 one_more (result.PublishFailed id diffs fulls accepted) old new n vs k e more = more n (ap (λ (s : ClusterState). s.version + 1) k.0 ∙ e)
 
-consecutive : (script : Script) (batches : List Batch) (world : World) (n : ℕ) → AreResults script world batches → world.state.version + 1 ≡ n
-    → AreConsecutive n (published_versions batches)
+consecutive : (script : Script) (batches : List Batch) (world : World) (n : ℕ) → AllByRecursion (λ s. s.batch.result ≡ s.stepped.result) (history_on script world batches)
+    → world.state.version + 1 ≡ n → AreConsecutive n (published_versions batches)
 consecutive script [] world n a e = tt
 consecutive script (batch ∷ batches) world n a e =
     one_more batch.result world (after script world batch) n (published_versions batches) (result_keeps script world batch a.0) e
     (λ m f. consecutive script batches (after script world batch) m a.1 f)
 
-one_committed : (r : BatchResult) (old new : World) (states : List ClusterState) (vs : List ℕ) → KeepsState old r new → map (λ s. s.version) states ≡ vs
-    → map (λ s. s.version) (if is_published r then new.state ∷ states else states) ≡ cons_option (published_version r) vs
-one_committed (result.Published version id commit diffs fulls accepted) old new states vs k e = λ i. k.1 i ∷ e i
-one_committed (result.Unchanged version) old new states vs k e = e
-one_committed (result.Failed position refusal) old new states vs k e = e
-one_committed result.NotMaster old new states vs k e = e
-one_committed (result.PublishFailed id diffs fulls accepted) old new states vs k e = e
+one_committed : (r : BatchResult) (old : World) (s : SteppedBatch) (kept : List SteppedBatch) (vs : List ℕ) → KeepsState old r s.world
+    → map (λ s. s.version) (map (λ s. s.world.state) kept) ≡ vs
+    → map (λ s. s.version) (map (λ s. s.world.state) (cond (is_published r) (s ∷ kept) kept)) ≡ cons_option (published_version r) vs
+one_committed (result.Published version id commit diffs fulls accepted) old s kept vs k e = λ i. k.1 i ∷ e i
+one_committed (result.Unchanged version) old s kept vs k e = e
+one_committed (result.Failed position refusal) old s kept vs k e = e
+one_committed result.NotMaster old s kept vs k e = e
+one_committed (result.PublishFailed id diffs fulls accepted) old s kept vs k e = e
 
-committed_versions : (script : Script) (batches : List Batch) (world : World) → AreResults script world batches
-    → map (λ s. s.version) (committed_on script world batches) ≡ published_versions batches
+committed_versions : (script : Script) (batches : List Batch) (world : World) → AllByRecursion (λ s. s.batch.result ≡ s.stepped.result) (history_on script world batches)
+    → map (λ s. s.version) (committed_in (history_on script world batches)) ≡ published_versions batches
 committed_versions script [] world a = refl
 committed_versions script (batch ∷ batches) world a =
-    one_committed batch.result world (after script world batch) (committed_on script (after script world batch) batches) (published_versions batches)
-    (result_keeps script world batch a.0) (committed_versions script batches (after script world batch) a.1)
+    let step = stepped script world batch in
+    let more = history_on script step.1 batches in
+    one_committed step.0.result world (record { batch = batch; stepped = step.0; world = step.1 }) (filter (λ s. is_published s.stepped.result) more) (published_versions batches)
+    (others_keep_the_state script world batch) (committed_versions script batches step.1 a.1)
+    ∙ ap (λ r. cons_option (published_version r) (published_versions batches)) (sym a.0)
 
 first_version : (script : Script) → (first_world script).state.version + 1 ≡ 2
 unfolding first_world
@@ -119,8 +123,8 @@ first_version script = refl
 
 pub versions_are_in_order : VersionsAreInOrder
 versions_are_in_order script batches h = record {
-  published = consecutive script batches (first_world script) 2 h.serial.results (first_version script);
-  committed = committed_versions script batches (first_world script) h.serial.results;
+  published = consecutive script batches (first_world script) 2 h.results (first_version script);
+  committed = committed_versions script batches (first_world script) h.results;
 }
 
 -- ---- tasks
@@ -208,4 +212,4 @@ once (batch ∷ batches) client step a =
     (once batches client step (apart_rest (queued_in batch) (queued_of batches) a)))
 
 pub tasks_stand_once : TasksStandOnce
-tasks_stand_once script batches h client step = once batches client step h.serial.apart
+tasks_stand_once script batches h client step = once batches client step h.apart

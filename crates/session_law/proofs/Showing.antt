@@ -1,6 +1,6 @@
--- What nodes and watches show: an answered part is answered by the first state that hits it, a node applies a part of
--- what it is handed, and a state without indices has empty views.
-use Rattle.std.specs.Prelude.{◌≡◌, ℕ, ◌+◌, ◌-◌, ◌≤◌, ◌<◌, Bool, true, false, not, List, [], ◌∷◌, Option, Some, drop, filter, get_or, is_some, length, map, slice_get, take, refl, IsTrue}
+-- What nodes and watches show: an answered part is answered by the first state that hits it, and a node applies a part
+-- of what it is handed.
+use Rattle.std.specs.Prelude.{◌≡◌, ℕ, ◌+◌, ◌-◌, ◌≤◌, ◌<◌, Bool, true, false, not, List, [], ◌∷◌, Option, Some, None, drop, filter, get_or, is_some, length, map, slice_get, take, refl, IsTrue}
 use Rattle.std.proofs.Common.{sym, subst, ap, ◌∙◌, inl, inr, cond, arith}
 use Rattle.std.specs.List.{AllByRecursion, list_all}
 use Rattle.std.proofs.lemmas.Bool.{true≢false}
@@ -15,9 +15,8 @@ use Rattle.session_law.specs.declared.batches.Batch.{Batch}
 use Rattle.session_law.specs.declared.watches.Watch.{Watch}
 use Rattle.session_law.specs.declared.watches.WatchEnd.{WatchEnd}
 use Rattle.session_law.specs.declared.watches.WatchEnd.TheVariants as end
-use Rattle.session_law.specs.Laws.{AnswersAreFirstHits, AppliedWasHanded, IsFirstHit, IsFirstHitOf, IsPartOf, ViewsAreEmpty}
+use Rattle.session_law.specs.Laws.{AnswersAreFirstHits, AppliedWasHanded, IsFirstHit, IsFirstHitOf, IsPartOf, NoneHits}
 use Rattle.session_law.specs.NodeRecords.{Commit, commits_to, does_fail}
-use Rattle.session_law.specs.Views.{views_of, with_aliases_of_all}
 use Rattle.session_law.specs.Watches as watched
 use Rattle.session_law.specs.Watches.{IsAnsweredBy, IsPart, IsPartEnd, IsPartWith, IsWatchPart, answer_of, final_place, is_hit_by, states_at}
 
@@ -36,21 +35,26 @@ before_end hit xs place n k x all low high e true p =
     absurd (true≢false (sym all ∙ list_all_at (λ y. not (hit y)) (take n (drop place xs)) (k - place) x short
     (ap (λ y. not (hit y)) at ∙ ap not p)))
 
-final_hits : (script : Script) (states : List ClusterState) (step : Step) (pred : Pred) (watch : Watch) (end : WatchEnd) (state : ClusterState)
-    → IsPartEnd script states step pred watch end → IsTrue (is_some (answer_of end)) → slice_get states (final_place watch) ≡ Some state
-    → IsTrue (is_hit_by watch.last pred state)
-final_hits script states step pred watch (end.Answered version) state h some e =
-    let P : Option ClusterState → Type 0 = IsAnsweredBy watch.last pred version in (subst P e h).0
-final_hits script states step pred watch (end.Timeout deadline reading) state h some e = absurd (true≢false (sym some))
-final_hits script states step pred watch (end.Closed client number) state h some e = absurd (true≢false (sym some))
+-- an answer shows that there is a final state, which hits
+answer_hits : (states : List ClusterState) (pred : Pred) (watch : Watch) (version : ℕ) (earlier : NoneHits states watch.place (final_place watch) watch.last pred)
+    (seen : Option ClusterState) → slice_get states (final_place watch) ≡ seen → IsAnsweredBy watch.last pred version seen → IsFirstHit states watch pred
+answer_hits states pred watch version earlier None e h = absurd h
+answer_hits states pred watch version earlier (Some state) e h = record { state = state; final = e; hits = h.0; earlier = earlier }
+
+end_hits : (script : Script) (states : List ClusterState) (step : Step) (pred : Pred) (watch : Watch) (end : WatchEnd)
+    → NoneHits states watch.place (final_place watch) watch.last pred → IsPartEnd script states step pred watch end → IsTrue (is_some (answer_of end))
+    → IsFirstHit states watch pred
+end_hits script states step pred watch (end.Answered version) earlier h some = answer_hits states pred watch version earlier (slice_get states (final_place watch)) refl h
+end_hits script states step pred watch (end.Timeout deadline reading) earlier h some = absurd (true≢false (sym some))
+end_hits script states step pred watch (end.Closed client number) earlier h some = absurd (true≢false (sym some))
 
 part_first : (script : Script) (watches : List Watch) (states : List ClusterState) (step : Step) (pred : Pred) (watch : Watch)
     → IsPart script watches states step pred watch → IsTrue (is_some (answer_of watch.end)) → IsFirstHit states watch pred
-part_first script watches states step pred watch h some = record {
-  final = λ state e. final_hits script states step pred watch watch.end state h.ends some e;
-  earlier = λ k state low high e. let one = h.shown in
-      before_end (is_hit_by watch.last pred) states watch.place (watch.shown - 1) k state h.passed low (omega arith) e (is_hit_by watch.last pred state) refl;
-}
+part_first script watches states step pred watch h some =
+    let one = h.shown in
+    end_hits script states step pred watch watch.end
+    (λ k state low high e. before_end (is_hit_by watch.last pred) states watch.place (watch.shown - 1) k state h.passed low (omega arith) e (is_hit_by watch.last pred state) refl)
+    h.ends some
 
 watch_first : (script : Script) (batches : List Batch) (watches : List Watch) (watch : Watch) → IsWatchPart script batches watches watch → IsFirstHitOf script batches watch
 watch_first script batches watches watch h some step pred e f =
@@ -83,9 +87,3 @@ kept_within keeps (commit ∷ commits) =
 
 pub applied_was_handed : AppliedWasHanded
 applied_was_handed script batches node = kept_within (λ c. not (does_fail script node c)) (commits_to script batches node)
-
--- ---- views
-
-pub views_are_empty : ViewsAreEmpty
-unfolding views_of
-views_are_empty state e = ((λ i. with_aliases_of_all (e i) []), (λ i. map (λ p. (p.0, p.1.id)) (e i)))

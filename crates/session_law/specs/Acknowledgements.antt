@@ -17,10 +17,10 @@ use Rattle.session_law.specs.declared.replies.AckEnd.TheVariants as ack
 use Rattle.session_law.specs.declared.replies.AckReply.{AckReply}
 use Rattle.session_law.specs.Committed.{committed_at}
 use Rattle.session_law.specs.DueTimes.{due}
-use Rattle.session_law.specs.Histories.{commit_of, step_at}
+use Rattle.session_law.specs.Histories.{SteppedBatch, commit_of, step_at}
 use Rattle.session_law.specs.NodeRecords.{applied_by}
-use Rattle.session_law.specs.Outcomes.{batch_of, outcome_of}
-use Rattle.session_law.specs.ScriptSteps.{numbered_steps}
+use Rattle.session_law.specs.Outcomes.{outcome_of, stepped_with}
+use Rattle.session_law.specs.ScriptSteps.{is_at, numbered_steps}
 
 -- the acknowledgement that a step asks for
 abbrev pub ack_of : Option Step → Option Ack
@@ -66,17 +66,17 @@ IsPublishedEnd true missing commit deadline end = IsLateEnd commit deadline end
 IsPublishedEnd false missing commit deadline end = IsAnswered missing deadline end
 
 -- the end for a task whose batch published a version
-abbrev pub IsEndOfBatch : Script → List Batch → Ack → ℕ → AckEnd → Option Batch → Type 0
+abbrev pub IsEndOfBatch : Script → List Batch → Ack → ℕ → AckEnd → Option SteppedBatch → Type 0
 IsEndOfBatch script batches asked version end None = ⊥
-IsEndOfBatch script batches asked version end (Some batch) =
-    let deadline = option_map (due batch.at) asked.timeout in
-    let commit = commit_of batch.result in
+IsEndOfBatch script batches asked version end (Some s) =
+    let deadline = option_map (due s.batch.at) asked.timeout in
+    let commit = commit_of s.stepped.result in
     IsPublishedEnd (is_over_at commit deadline) (missing_of script batches asked version) commit deadline end
 
 -- the end of the acknowledgement of a task, by the task's outcome: where nothing was published nobody is waited for
 abbrev pub IsAckEnd : Script → List Batch → Ack → AckReply → Option TaskEnd → Type 0
 IsAckEnd script batches asked reply (Some (task.Ok version)) =
-    IsEndOfBatch script batches asked version reply.end (batch_of batches reply.client reply.step)
+    IsEndOfBatch script batches asked version reply.end (stepped_with script batches reply.client reply.step)
 IsAckEnd script batches asked reply (Some (task.Unchanged version)) = reply.end ≡ ack.All
 IsAckEnd script batches asked reply _ = ⊥
 
@@ -99,10 +99,7 @@ abbrev pub is_acked_step : Script → List Batch → ℕ → ℕ → Bool
 is_acked_step script batches client step =
     does_ask (ack_of (step_at script client step)) && is_success (outcome_of script batches client step)
 
-abbrev pub is_ack_to : ℕ → ℕ → AckReply → Bool
-is_ack_to client step reply = (reply.client == client) && (reply.step == step)
-
 -- each step that asks, and whose task succeeded, has one acknowledgement, and there are no others
 pub record IsAcknowledged (script : Script) (batches : List Batch) (acks : List AckReply) : Type 0 where
   pub answered : AllByRecursion (λ a. IsAckReply script batches a (ack_of (step_at script a.client a.step))) acks
-  pub once : AllByRecursion (λ s. is_acked_step script batches s.client s.number ≡ true → count_by (is_ack_to s.client s.number) acks ≡ 1) (numbered_steps script)
+  pub once : AllByRecursion (λ s. is_acked_step script batches s.client s.number ≡ true → count_by (λ a. is_at s.client s.number a.client a.step) acks ≡ 1) (numbered_steps script)

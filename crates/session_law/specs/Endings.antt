@@ -14,7 +14,7 @@ use Rattle.session_law.specs.declared.replies.Reply.{Reply}
 use Rattle.session_law.specs.DueTimes.{due}
 use Rattle.session_law.specs.Histories.{step_at}
 use Rattle.session_law.specs.Outcomes.{outcome_of}
-use Rattle.session_law.specs.ScriptSteps.{before_close, is_after_close, is_close_at, is_some_so, numbered_steps}
+use Rattle.session_law.specs.ScriptSteps.{before_close, is_after_close, is_at, is_close_at, is_some_so, numbered_steps}
 
 -- whether a step awaits the task of a number, or its acknowledgement
 abbrev pub does_await_task : ℕ → Step → Bool
@@ -58,10 +58,7 @@ pub record IsEnded (script : Script) (batches : List Batch) (reply : Reply) : Ty
   pub end : IsEndBy script reply (outcome_of script batches reply.client reply.step)
   pub after_close : is_after_close script reply.client reply.step ≡ true → IsTrue (is_closed reply.end)
 
-abbrev pub is_reply_to : ℕ → ℕ → Reply → Bool
-is_reply_to client step reply = (reply.client == client) && (reply.step == step)
-
 -- each submit step has one reply, and there are no others
 pub record EndsOnce (script : Script) (batches : List Batch) (replies : List Reply) : Type 0 where
   pub ended : AllByRecursion (IsEnded script batches) replies
-  pub once : AllByRecursion (λ s. is_submit s.step ≡ true → count_by (is_reply_to s.client s.number) replies ≡ 1) (numbered_steps script)
+  pub once : AllByRecursion (λ s. is_submit s.step ≡ true → count_by (λ r. is_at s.client s.number r.client r.step) replies ≡ 1) (numbered_steps script)

@@ -1,5 +1,6 @@
--- A history: the batches that ran, the world that they lead to, and when a master's book of them is kept.
-use Rattle.std.specs.Prelude.{◌≡◌, ℕ, ◌+◌, ◌<◌, Bool, true, false, ◌&&◌, ◌==◌, List, [], ◌∷◌, map, flat_map, filter_map, fold, Option, Some, None, option_and_then, slice_get, bytes_eq, IsTrue, length, if◌then◌else◌}
+-- A history: the batches that ran, what each was stepped to, and when a master's book of them is kept. It is this
+-- project's own.
+use Rattle.std.specs.Prelude.{◌≡◌, ℕ, ◌+◌, ◌<◌, Bool, true, false, List, [], ◌∷◌, map, flat_map, filter_map, fold, Option, Some, None, option_and_then, slice_get, bytes_eq, IsTrue, length, if◌then◌else◌}
 use Rattle.std.specs.List.{AllByRecursion}
 use Rattle.executors.specs.declared.kinds.Kind.{Kind}
 use Rattle.executors.specs.declared.kinds.Kind.TheVariants as kind
@@ -15,7 +16,8 @@ use Rattle.session_law.specs.declared.batches.Entry.{Entry}
 use Rattle.session_law.specs.declared.worlds.Stepped.{Stepped}
 use Rattle.session_law.specs.declared.worlds.World.{World}
 use Rattle.session_law.specs.Publications.{cut_by}
-use Rattle.session_law.specs.BatchSteps.{batch_step}
+use Rattle.session_law.specs.BatchSteps.{BatchInput, batch_step}
+use Rattle.session_law.specs.ScriptSteps.{is_at}
 use Rattle.session_law.specs.Worlds.{first_world}
 
 -- ---- what a script says of an entry and of a queue
@@ -39,31 +41,51 @@ abbrev pub kind_named : List QueueSpec → List ℕ → Kind
 kind_named [] name = kind.CreateIndex
 kind_named (queue ∷ queues) name = if bytes_eq name queue.name then queue.executor else kind_named queues name
 
--- ---- the world after batches
+-- ---- what each batch was stepped to
 
 -- the reading at which a batch committed
 abbrev pub commit_of : BatchResult → ℕ
 commit_of (Published version id commit diffs fulls accepted) = commit
 commit_of _ = 0
 
--- what comes of a batch on a world
-abbrev pub stepped : Script → World → Batch → Stepped
-stepped script world batch =
-    batch_step (cut_by script.faults) script.nodes world (kind_named script.queues batch.queue) (tasks_at script batch.entries) (commit_of batch.result)
+-- what a batch of a script is run with
+abbrev pub input_of : Script → Batch → BatchInput
+input_of script batch = record {
+  cut = cut_by script.faults;
+  nodes = script.nodes;
+  kind = kind_named script.queues batch.queue;
+  tasks = tasks_at script batch.entries;
+  commit = commit_of batch.result;
+}
+
+-- what comes of a batch on a world, and the world after it
+abbrev pub stepped : Script → World → Batch → Stepped × World
+stepped script world batch = batch_step (input_of script batch) world
 
 abbrev pub after : Script → World → Batch → World
-after script world batch = (stepped script world batch).world
+after script world batch = (stepped script world batch).1
 
 abbrev pub world_after : Script → List Batch → World
 world_after script batches = fold (after script) (first_world script) batches
 
--- ---- a kept book
+-- a batch, what was computed to come of it, and the world after it
+pub record SteppedBatch : Type 0 where
+  pub batch : Batch
+  pub stepped : Stepped
+  pub world : World
 
--- each batch has the result that it has on the world before it
-abbrev pub AreResults : Script → World → List Batch → Type 0
-AreResults script world [] = Unit {0}
-AreResults script world (batch ∷ batches) =
-    (batch.result ≡ (stepped script world batch).result) × AreResults script (after script world batch) batches
+-- batches on a world, one after the other
+abbrev pub history_on : Script → World → List Batch → List SteppedBatch
+history_on script world [] = []
+history_on script world (batch ∷ batches) =
+    let step = stepped script world batch in
+    record { batch = batch; stepped = step.0; world = step.1 } ∷ history_on script step.1 batches
+
+-- the batches of a script, from its first world on: results, committed states, commits and outcomes are read from it
+abbrev pub history_of : Script → List Batch → List SteppedBatch
+history_of script batches = history_on script (first_world script) batches
+
+-- ---- a kept book
 
 -- an entry with the name of its batch's queue
 pub record Queued : Type 0 where
@@ -89,7 +111,7 @@ abbrev pub IsOwn : Script → Queued → Type 0
 IsOwn script placed = IsTrue (is_own_step script placed.queue (step_at script placed.entry.client placed.entry.step))
 
 abbrev pub is_same_task : Entry → Entry → Bool
-is_same_task a b = (a.client == b.client) && (a.step == b.step)
+is_same_task a b = is_at b.client b.step a.client a.step
 
 -- an earlier and a later entry: no task stands twice, and in one queue the steps of one client rise
 pub record IsApart (a b : Queued) : Type 0 where
@@ -106,9 +128,10 @@ abbrev pub AreApart : List Queued → Type 0
 AreApart [] = Unit {0}
 AreApart (placed ∷ more) = AllByRecursion (IsApart placed) more × AreApart more
 
--- the batches of a book: a serial history of the script, but that the `seen` of its entries is only bounded
+-- the batches of a book: each has the result that was computed for it. They are a serial history of the script, but that
+-- the `seen` of their entries is only bounded
 pub record IsSerial (script : Script) (batches : List Batch) : Type 0 where
-  pub results : AreResults script (first_world script) batches
+  pub results : AllByRecursion (λ s. s.batch.result ≡ s.stepped.result) (history_of script batches)
   pub filled : AllByRecursion (λ b. 0 < length b.entries) batches
   pub own : AllByRecursion (IsOwn script) (queued_of batches)
   pub apart : AreApart (queued_of batches)

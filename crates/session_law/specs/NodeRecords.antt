@@ -1,7 +1,8 @@
 -- What a node is handed, what it applies, and its record. A node is handed the commit of each state that it accepted,
 -- but where its script lets the commit get lost, and applies each state that it is handed, but where its script lets it
 -- fail (Elasticsearch's `ClusterApplierService`; the faults, and what the record keeps, are this project's own).
-use Rattle.std.specs.Prelude.{ℕ, Bool, true, false, not, ◌&&◌, List, [], ◌∷◌, ◌++◌, Option, Some, None, filter, find, is_some, map, bytes_eq, if◌then◌else◌}
+use Rattle.std.specs.Prelude.{ℕ, Bool, true, false, not, ◌&&◌, List, [], ◌∷◌, Option, Some, None, filter, find, is_some, map, option_map, unwrap_or, bytes_eq, if◌then◌else◌}
+use Rattle.std.specs.List.{zip}
 use Rattle.plain_data.specs.Pairs.{lookup}
 use Rattle.meta_state.specs.declared.cluster_state.ClusterState.{ClusterState}
 use Rattle.meta_state.specs.States.{zero_state}
@@ -13,14 +14,13 @@ use Rattle.session_law.specs.declared.batches.Batch.{Batch}
 use Rattle.session_law.specs.declared.node_records.Apply.{Apply}
 use Rattle.session_law.specs.declared.node_records.ApplyEnd.TheVariants as end
 use Rattle.session_law.specs.declared.node_records.NodeRec.{NodeRec}
-use Rattle.session_law.specs.declared.worlds.NodeWorld.{NodeWorld}
 use Rattle.session_law.specs.declared.worlds.World.{World}
 use Rattle.session_law.specs.Changes.{change_between}
 use Rattle.session_law.specs.Committed.{is_published}
-use Rattle.session_law.specs.Histories.{after}
+use Rattle.session_law.specs.Histories.{SteppedBatch, history_of}
 use Rattle.session_law.specs.Publications.{fault_at}
 use Rattle.session_law.specs.Views.{views_of}
-use Rattle.session_law.specs.Worlds.{first_state_of, first_world}
+use Rattle.session_law.specs.Worlds.{first_state_of}
 
 -- ---- handed
 
@@ -36,32 +36,24 @@ is_handed_on (Some fault.Apply) = true
 is_handed_on (Some fault.LostCommit) = false
 is_handed_on (Some fault.Unreachable) = false
 
--- how many publications were sent to a node
-abbrev pub sent_to : List ℕ → List ScriptNode → List NodeWorld → ℕ
-sent_to name [] _ = 0
-sent_to name (node ∷ nodes) [] = 0
-sent_to name (node ∷ nodes) (has ∷ more) = if bytes_eq name node.name then has.sent else sent_to name nodes more
+-- how many publications were sent to a node, by the world
+abbrev pub sent_to : Script → List ℕ → World → ℕ
+sent_to script name world = unwrap_or (option_map (λ p. p.1.sent) (find (λ p. bytes_eq name p.0.name) (zip script.nodes world.nodes))) 0
 
--- what a node is handed of the state of the world after a batch, by how many publications were sent to it then
-abbrev pub handed_at : Script → List ℕ → ClusterState → ℕ → List Commit
-handed_at script name state publication =
-    if is_some (lookup name state.nodes) && is_handed_on (fault_at script.faults name publication)
-    then record { state = state; publication = publication } ∷ []
-    else []
+-- whether a node is handed the commit of a batch: the batch was published, and the node is in its state and has no fault
+-- that keeps it from it
+abbrev pub is_handed : Script → List ℕ → SteppedBatch → Bool
+is_handed script name s =
+    is_published s.stepped.result &&
+    (is_some (lookup name s.world.state.nodes) && is_handed_on (fault_at script.faults name (sent_to script name s.world)))
 
--- what a node is handed of one batch, by the world after it: of a batch that wasn't published nothing
-abbrev pub handed_of : Script → List ℕ → Batch → World → List Commit
-handed_of script name batch world =
-    if is_published batch.result then handed_at script name world.state (sent_to name script.nodes world.nodes) else []
-
-abbrev pub handed_on : Script → List ℕ → World → List Batch → List Commit
-handed_on script name world [] = []
-handed_on script name world (batch ∷ batches) =
-    handed_of script name batch (after script world batch) ++ handed_on script name (after script world batch) batches
+-- the commit of a batch, as a node is handed it
+abbrev pub commit_to : Script → List ℕ → SteppedBatch → Commit
+commit_to script name s = record { state = s.world.state; publication = sent_to script name s.world }
 
 -- the commits that a node is handed, in order
 abbrev pub commits_to : Script → List Batch → List ℕ → List Commit
-commits_to script batches name = handed_on script name (first_world script) batches
+commits_to script batches name = map (commit_to script name) (filter (is_handed script name) (history_of script batches))
 
 abbrev pub handed_to : Script → List Batch → List ℕ → List ℕ
 handed_to script batches name = map (λ c. c.state.version) (commits_to script batches name)

@@ -1,8 +1,9 @@
--- A publication: the nodes of the new state that can be reached accept it, by a diff or in full, and it commits where
--- the master and more than half of the eligible nodes accepted it (Elasticsearch's `PublicationTransportHandler` and
--- `CoordinationState`; that it ends at commit is this project's own). `cut name k` tells whether the node of this name
--- can't be reached at the k-th publication that is sent to it.
-use Rattle.std.specs.Prelude.{ℕ, ◌+◌, Bool, true, false, not, ◌&&◌, ◌||◌, ◌==◌, List, [], ◌∷◌, ◌++◌, Option, Some, None, is_some, nat_lt, bytes_eq, count_by, if◌then◌else◌}
+-- A publication of a new state, by filters and counts over the nodes. Those of the new state that can be reached accept
+-- it, by a diff or in full (Elasticsearch's `PublicationTransportHandler`). It commits where the master and more than
+-- half of the eligible nodes accepted it, and ends there: this rule is the project's own. `cut name k` tells whether the
+-- node of this name can't be reached at the k-th publication that is sent to it.
+use Rattle.std.specs.Prelude.{ℕ, ◌+◌, Bool, true, false, not, ◌&&◌, ◌==◌, List, [], ◌∷◌, Option, Some, None, filter, is_some, map, nat_lt, bytes_eq, count_by, if◌then◌else◌}
+use Rattle.std.specs.List.{list_any, zip}
 use Rattle.plain_data.specs.Pairs.{lookup}
 use Rattle.meta_state.specs.declared.node_info.NodeInfo.{NodeInfo}
 use Rattle.meta_state.specs.declared.cluster_state.ClusterState.{ClusterState}
@@ -12,6 +13,8 @@ use Rattle.scripts.specs.declared.faults.FaultKind.TheVariants.{Unreachable}
 use Rattle.scripts.specs.declared.whole_script.ScriptNode.{ScriptNode}
 use Rattle.session_law.specs.declared.worlds.NodeWorld.{NodeWorld}
 use Rattle.session_law.specs.declared.worlds.Reach.{Reach}
+
+-- ---- faults
 
 -- whether a fault is that of a node at its k-th publication
 abbrev pub is_fault_at : List ℕ → ℕ → Fault → Bool
@@ -30,6 +33,8 @@ is_unreachable _ = false
 abbrev pub cut_by : List Fault → List ℕ → ℕ → Bool
 cut_by faults name k = is_unreachable (fault_at faults name k)
 
+-- ---- one node
+
 -- whether a node counts for the majority in a state
 abbrev pub is_eligible : Option NodeInfo → Bool
 is_eligible None = false
@@ -39,47 +44,41 @@ is_eligible (Some node) = node.eligible
 abbrev pub is_sent_diff : ClusterState → List ℕ → NodeWorld → Bool
 is_sent_diff prev name node = is_some (lookup name prev.nodes) && (node.accepted.id == prev.id)
 
-abbrev pub one_if : Bool → ℕ
-one_if counts = if counts then 1 else 0
+-- ---- what it reaches, over the nodes of the script with what each of them has
 
--- a node to which nothing is sent
-abbrev pub passed_over : Reach → NodeWorld → Reach
-passed_over reach node = record reach { nodes = reach.nodes ++ node ∷ [] }
+-- whether a node accepts the new state: it is in it, and can be reached
+abbrev pub does_accept : (List ℕ → ℕ → Bool) → ClusterState → ScriptNode × NodeWorld → Bool
+does_accept cut new p = is_some (lookup p.0.name new.nodes) && not (cut p.0.name (p.1.sent + 1))
 
--- a node that can't be reached: the publication to it counts
-abbrev pub missed : Reach → NodeWorld → Reach
-missed reach node = record reach { nodes = reach.nodes ++ record node { sent = node.sent + 1 } ∷ [] }
+-- what a node of the new state has then
+abbrev pub sent_more : ClusterState → NodeWorld → Bool → NodeWorld
+sent_more new has accepts = if accepts then record { accepted = new; sent = has.sent + 1 } else record has { sent = has.sent + 1 }
 
--- a node that accepts the new state
-abbrev pub reached : ClusterState → Reach → List ℕ → NodeWorld → Bool → Reach
-reached new reach name node by_diff = record {
-  nodes = reach.nodes ++ record { accepted = new; sent = node.sent + 1 } ∷ [];
-  diffs = reach.diffs + one_if by_diff;
-  fulls = reach.fulls + one_if (not by_diff);
-  votes = reach.votes + one_if (is_eligible (lookup name new.nodes));
-  master = reach.master || bytes_eq name new.master;
-}
+-- what a node has then: one that isn't in the new state is sent nothing
+abbrev pub sent_on : (List ℕ → ℕ → Bool) → ClusterState → ScriptNode × NodeWorld → NodeWorld
+sent_on cut new p = if is_some (lookup p.0.name new.nodes) then sent_more new p.1 (does_accept cut new p) else p.1
 
--- one node more
-abbrev pub reach_more : (List ℕ → ℕ → Bool) → ClusterState → ClusterState → Reach → List ℕ → NodeWorld → Reach
-reach_more cut prev new reach name node =
-    if not (is_some (lookup name new.nodes)) then passed_over reach node else
-    (if cut name (node.sent + 1) then missed reach node else
-    reached new reach name node (is_sent_diff prev name node))
+-- how far it reaches, by those that accept it
+abbrev pub counted_on : (List ℕ → ℕ → Bool) → ClusterState → ClusterState → List (ScriptNode × NodeWorld) → Reach
+counted_on cut prev new nodes =
+    let accepting = filter (does_accept cut new) nodes in
+    record {
+      nodes = map (sent_on cut new) nodes;
+      diffs = count_by (λ p. is_sent_diff prev p.0.name p.1) accepting;
+      fulls = count_by (λ p. not (is_sent_diff prev p.0.name p.1)) accepting;
+      votes = count_by (λ p. is_eligible (lookup p.0.name new.nodes)) accepting;
+      master = list_any (λ p. bytes_eq p.0.name new.master) accepting;
+    }
 
--- all nodes of the script
-unfoldable pub reach_all : (List ℕ → ℕ → Bool) → ClusterState → ClusterState → Reach → List ScriptNode → List NodeWorld → Reach
-reach_all cut prev new reach [] _ = reach
-reach_all cut prev new reach (_ ∷ _) [] = reach
-reach_all cut prev new reach (node ∷ nodes) (has ∷ more) = reach_all cut prev new (reach_more cut prev new reach node.name has) nodes more
+unfoldable pub reach_of : (List ℕ → ℕ → Bool) → ClusterState → ClusterState → List ScriptNode → List NodeWorld → Reach
+reach_of cut prev new nodes have = counted_on cut prev new (zip nodes have)
 
-abbrev pub reach_none : Reach
-reach_none = record { nodes = []; diffs = 0; fulls = 0; votes = 0; master = false }
+-- ---- whether it commits
 
 -- how many nodes of a state count for the majority
 abbrev pub electorate : List (List ℕ × NodeInfo) → ℕ
 electorate nodes = count_by (λ p. p.1.eligible) nodes
 
--- whether a publication commits
+-- the master accepted it, and so did more than half of the eligible nodes
 abbrev pub does_commit : ClusterState → Reach → Bool
 does_commit new reach = reach.master && nat_lt (electorate new.nodes) (reach.votes + reach.votes)

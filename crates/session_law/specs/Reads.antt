@@ -16,23 +16,20 @@ use Rattle.session_law.specs.declared.replies.AckEnd.TheVariants as ack
 use Rattle.session_law.specs.declared.replies.AckReply.{AckReply}
 use Rattle.session_law.specs.declared.sessions.Session.{Session}
 use Rattle.session_law.specs.declared.watches.Watch.{Watch}
-use Rattle.session_law.specs.Acknowledgements.{ack_of, is_ack_to, must_of}
+use Rattle.session_law.specs.Acknowledgements.{ack_of, must_of}
 use Rattle.session_law.specs.Committed.{committed_at}
 use Rattle.session_law.specs.Histories.{step_at}
 use Rattle.session_law.specs.NodeRecords.{applied_by}
 use Rattle.session_law.specs.Outcomes.{outcome_of}
-use Rattle.session_law.specs.ScriptSteps.{node_at, numbered_steps, steps_before}
+use Rattle.session_law.specs.ScriptSteps.{is_at, node_at, numbered_steps, steps_before}
 use Rattle.session_law.specs.SerialHistories.{greatest}
 use Rattle.session_law.specs.Watches.{answer_of, is_of_step, last_part, states_at}
 
 -- ---- what one step lets its client know of a node: versions
 
-abbrev pub is_read_of : ℕ → ℕ → Read → Bool
-is_read_of client step read = (read.client == client) && (read.step == step)
-
 -- what a read at the node showed
 abbrev pub read_by : Session → ℕ → ℕ → List ℕ
-read_by session client step = map (λ r. r.version) (filter (is_read_of client step) session.reads)
+read_by session client step = map (λ r. r.version) (filter (λ r. is_at client step r.client r.step) session.reads)
 
 -- what answered a watch or next step at the node
 abbrev pub answers_of : Session → ℕ → ℕ → List ℕ
@@ -62,7 +59,7 @@ is_must script session node version (Some asked) =
 -- the version that a task published, where the node is one of those that acknowledged it in full
 abbrev pub published_by : Script → Session → List ℕ → ℕ → ℕ → Option TaskEnd → List ℕ
 published_by script session node client step (Some (task.Ok version)) =
-    if is_full (find (is_ack_to client step) session.acks) && is_must script session node version (ack_of (step_at script client step))
+    if is_full (find (λ a. is_at client step a.client a.step) session.acks) && is_must script session node version (ack_of (step_at script client step))
     then version ∷ []
     else []
 published_by script session node client step _ = []
@@ -104,7 +101,7 @@ is_read _ = false
 -- are no others
 pub record IsRead (script : Script) (session : Session) : Type 0 where
   pub found : AllByRecursion (λ r. IsReadBy script session r (step_at script r.client r.step)) session.reads
-  pub once : AllByRecursion (λ s. is_read s.step ≡ true → count_by (is_read_of s.client s.number) session.reads ≡ 1) (numbered_steps script)
+  pub once : AllByRecursion (λ s. is_read s.step ≡ true → count_by (λ r. is_at s.client s.number r.client r.step) session.reads ≡ 1) (numbered_steps script)
 
 -- ---- the places of watches
 

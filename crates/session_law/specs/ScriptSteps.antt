@@ -6,6 +6,15 @@ use Rattle.scripts.specs.declared.steps.Step.{Step}
 use Rattle.scripts.specs.declared.steps.Step.TheVariants.{Watch, Next, Read}
 use Rattle.scripts.specs.Scripts.{is_close}
 
+-- ---- client and step
+
+-- whether two numbers are these of client and step: the one test by which the entries, replies, acknowledgements, parts
+-- and reads of a step are told
+abbrev pub is_at : ℕ → ℕ → ℕ → ℕ → Bool
+is_at client step its_client its_step = (its_client == client) && (its_step == step)
+
+-- ---- numbered steps
+
 -- a step with the number of its client and its own
 pub record NumberedStep : Type 0 where
   pub client : ℕ
@@ -33,10 +42,10 @@ client_steps script client = unwrap_or (slice_get script.clients client) []
 abbrev pub steps_before : Script → ℕ → ℕ → List NumberedStep
 steps_before script client number = numbered_from client 0 (take number (client_steps script client))
 
--- whether there is a step, and it passes a test
-abbrev pub is_some_so : (Step → Bool) → Option Step → Bool
+-- whether there is one, and it passes a test
+abbrev pub is_some_so : {A : Type 0} → (A → Bool) → Option A → Bool
 is_some_so test None = false
-is_some_so test (Some step) = test step
+is_some_so test (Some a) = test a
 
 -- ---- the node of a step
 
@@ -62,21 +71,13 @@ node_at script client number = unwrap_or (slice_get (nodes_after [] (client_step
 abbrev pub close_of : Script → Option NumberedStep
 close_of script = find (λ s. is_close s.step) (numbered_steps script)
 
-abbrev pub is_numbered : ℕ → ℕ → Option NumberedStep → Bool
-is_numbered client number None = false
-is_numbered client number (Some s) = (s.client == client) && (s.number == number)
-
 -- whether the close step has these numbers
 abbrev pub is_close_at : Script → ℕ → ℕ → Bool
-is_close_at script client number = is_numbered client number (close_of script)
-
-abbrev pub is_later : ℕ → ℕ → Option NumberedStep → Bool
-is_later client number None = false
-is_later client number (Some s) = (s.client == client) && nat_lt s.number number
+is_close_at script client number = is_some_so (λ s. is_at client number s.client s.number) (close_of script)
 
 -- whether a step stands after the close step, in the same client
 abbrev pub is_after_close : Script → ℕ → ℕ → Bool
-is_after_close script client number = is_later client number (close_of script)
+is_after_close script client number = is_some_so (λ s. (s.client == client) && nat_lt s.number number) (close_of script)
 
 abbrev pub before_step : Script → Option NumberedStep → List NumberedStep
 before_step script None = []

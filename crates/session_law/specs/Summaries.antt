@@ -27,8 +27,8 @@ with_aliases_of [] names = names
 with_aliases_of (p ∷ ps) names = with_aliases_of ps (with_keys p.1.aliases names)
 
 -- whether a node applied a version last
-abbrev pub is_at : ℕ → NodeRec → Bool
-is_at version node = last_of 0 (applied_versions node) == version
+abbrev pub has_reached : ℕ → NodeRec → Bool
+has_reached version node = last_of 0 (applied_versions node) == version
 
 abbrev pub equal_word : Bool → List ℕ
 equal_word same = if same then codes "equal" else codes "differ"
@@ -37,4 +37,4 @@ unfoldable pub summary_of : Session → List ℕ
 summary_of session =
     codes "tasks " ++ (decimal (length session.replies) ++ (codes " ok " ++ (decimal (count_by (λ r. is_ok r.end) session.replies) ++
     (codes " indices " ++ (decimal (length session.last.metadata.indices) ++ (codes " aliases " ++ (decimal (length (with_aliases_of session.last.metadata.indices [])) ++
-    (codes " nodes " ++ (equal_word (list_all (is_at session.last.version) session.nodes) ++ line_end)))))))))
+    (codes " nodes " ++ (equal_word (list_all (has_reached session.last.version) session.nodes) ++ line_end)))))))))

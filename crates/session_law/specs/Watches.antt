@@ -17,7 +17,7 @@ use Rattle.session_law.specs.declared.watches.WatchEnd.TheVariants as end
 use Rattle.session_law.specs.DueTimes.{due}
 use Rattle.session_law.specs.Histories.{step_at}
 use Rattle.session_law.specs.NodeRecords.{applied_states}
-use Rattle.session_law.specs.ScriptSteps.{before_close, is_after_close, is_close_at, is_some_so, node_at, numbered_steps}
+use Rattle.session_law.specs.ScriptSteps.{before_close, is_after_close, is_at, is_close_at, is_some_so, node_at, numbered_steps}
 
 -- ---- hits
 
@@ -60,7 +60,7 @@ is_named_before_close script client step = list_any (λ s. (s.client == client) 
 -- ---- parts
 
 abbrev pub is_of_step : ℕ → ℕ → Watch → Bool
-is_of_step client step watch = (watch.client == client) && (watch.step == step)
+is_of_step client step watch = is_at client step watch.client watch.step
 
 abbrev pub is_part : ℕ → ℕ → ℕ → Watch → Bool
 is_part client step part watch = is_of_step client step watch && (watch.part == part)

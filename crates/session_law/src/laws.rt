@@ -1,13 +1,13 @@
-ghost use Rattle.session_law.specs.Laws.{AnswersAreFirstHits, AppliedWasHanded, OthersKeepTheState, PublicationsAreCounted, TasksStandOnce, VersionsAreInOrder, ViewsAreEmpty};
+ghost use Rattle.session_law.specs.Laws.{AnswersAreFirstHits, AppliedWasHanded, OthersKeepTheState, TasksStandOnce, VersionsAreInOrder, ViewsAgreeWithLooks};
 
 // Laws over the definitions: each function does nothing, and its contract is the law.
 
-/// The committed versions of a serial history are 2, 3, 4, .. in order.
+/// The committed versions of a book's batches are 2, 3, 4, .. in order.
 pub fn versions_are_in_order()
     ensures { VersionsAreInOrder }
 {}
 
-/// No task is in two batches of a serial history.
+/// No task is in two batches of a book.
 pub fn tasks_stand_once()
     ensures { TasksStandOnce }
 {}
@@ -18,12 +18,7 @@ pub fn others_keep_the_state()
     ensures { OthersKeepTheState }
 {}
 
-/// How far a publication reaches is counted over the nodes that accept it: those of the new state that can be reached.
-pub fn publications_are_counted()
-    ensures { PublicationsAreCounted }
-{}
-
-/// A part of a watch that was answered was shown no earlier state that hits it.
+/// A part of a watch that was answered was shown a state that hits it, and no earlier one that does.
 pub fn answers_are_first_hits()
     ensures { AnswersAreFirstHits }
 {}
@@ -33,7 +28,7 @@ pub fn applied_was_handed()
     ensures { AppliedWasHanded }
 {}
 
-/// The index and alias views of a state without indices are empty.
-pub fn views_are_empty()
-    ensures { ViewsAreEmpty }
+/// Under each alias a view keeps the names that a look at it finds.
+pub fn views_agree_with_looks()
+    ensures { ViewsAgreeWithLooks }
 {}

@@ -20,8 +20,8 @@ mod worlds;
 
 pub use batches::{Batch, BatchResult, Entry};
 pub use laws::{
-    answers_are_first_hits, applied_was_handed, others_keep_the_state, publications_are_counted,
-    tasks_stand_once, versions_are_in_order, views_are_empty,
+    answers_are_first_hits, applied_was_handed, others_keep_the_state, tasks_stand_once,
+    versions_are_in_order, views_agree_with_looks,
 };
 pub use node_records::{Apply, ApplyEnd, Change, NodeRec, View};
 pub use reads::Read;

@@ -2,7 +2,7 @@ ghost use Rattle.std.specs.Prelude.{◌≡◌, [], IfOk, OnOk, count_by};
 ghost use Rattle.std.specs.List.{list_all};
 ghost use Rattle.session_law.specs.NodeLines.{applied_to, applied_versions};
 ghost use Rattle.session_law.specs.NodeRecords.{last_of};
-ghost use Rattle.session_law.specs.Summaries.{equal_word, is_at, is_ok, summary_of, with_aliases_of, with_keys};
+ghost use Rattle.session_law.specs.Summaries.{equal_word, has_reached, is_ok, summary_of, with_aliases_of, with_keys};
 
 use crate::TaskEnd;
 use crate::node_records::NodeRec;
@@ -80,7 +80,7 @@ fn last_version(node: &NodeRec) -> u64
 }
 
 fn are_all_at(version: u64, nodes: &[NodeRec]) -> bool
-    ensures { result ≡ list_all (is_at version) nodes.now }
+    ensures { result ≡ list_all (has_reached version) nodes.now }
 {
     nodes.iter().all(|node| last_version(node) == version)
 }

@@ -48,14 +48,11 @@ pub struct Reach {
     pub master: bool,
 }
 
-/// What came of one batch.
+/// What came of one batch, beside the world after it.
 #[derive(Debug, Drop)]
 pub struct Stepped {
     pub result: BatchResult,
 
     /// How each of its tasks ended, in order.
     pub ends: Items<TaskEnd>,
-
-    /// The world after it.
-    pub world: World,
 }

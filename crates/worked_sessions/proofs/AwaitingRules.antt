@@ -1,64 +1,27 @@
 -- The session whose client awaits before it closes keeps each of the eight rules, by computing them.
-use Rattle.std.specs.Prelude.{refl}
 use Rattle.std.proofs.Common.{sym, arith}
+use Rattle.meta_state.specs.Looks.{found_at}
 use Rattle.executors.specs.Executions.{executed, folded}
 use Rattle.executors.specs.TaskRuns.{task_outcome}
-use Rattle.worked_sessions.proofs.Computing.{at_most, met_index, never}
+use Rattle.worked_sessions.proofs.Computing.{met_index, never}
 use Rattle.worked_sessions.proofs.ValidScripts.{awaiting_valid}
 use Rattle.worked_sessions.specs.Awaiting.{awaiting_script, awaiting_session, closing_an_awaited_task, closing_an_awaited_watch}
 use Rattle.session_law.specs.Changes.{change_between}
 use Rattle.report_law.specs.GoodForm.{IsGoodForm}
-use Rattle.session_law.specs.Lawful.{AreInOrder, IsLawful}
+use Rattle.session_law.specs.Lawful.{IsLawful}
 use Rattle.worked_sessions.specs.WorkedLaws.{AreAwaitingUnlawful, IsWorked}
 use Rattle.session_law.specs.NodeRecords.{node_record}
-use Rattle.session_law.specs.Publications.{reach_all}
+use Rattle.session_law.specs.Publications.{reach_of}
 use Rattle.session_law.specs.BatchSteps.{batch_step}
 use Rattle.session_law.specs.Views.{views_of}
 use Rattle.session_law.specs.Worlds.{first_world}
 
-order : AreInOrder awaiting_session
-order = record { replies = refl; acks = refl; watches = refl; reads = refl }
-
 lawful : IsLawful awaiting_script awaiting_session
-unfolding first_world batch_step reach_all executed folded task_outcome node_record change_between views_of
-lawful = record {
-  serial = record {
-    serial = record {
-      results = (refl, tt);
-      filled = (omega arith, tt);
-      own = (refl, tt);
-      apart = (tt, tt);
-      seen = ((omega arith, tt), tt);
-    };
-    seen = (refl, tt);
-  };
-  ended = record {
-    ended = (record { submit = refl; end = refl; after_close = never }, tt);
-    once = ((λ _. refl), (never, (never, (never, (never, tt)))));
-  };
-  acknowledged = record { answered = tt; once = (never, (never, (never, (never, (never, tt))))) };
-  watched = record {
-    parts = (record { begins = refl; shown = omega arith; within = at_most _ _ refl; passed = refl; ends = (met_index _ _, refl); after_close = never }, tt);
-    once = (refl, tt);
-    begun = (never, (never, ((λ _. refl), (never, (never, tt)))));
-    continued = (never, tt);
-  };
-  read = record { found = tt; once = (never, (never, (never, (never, (never, tt))))) };
-  placed = ((λ _. at_most _ _ refl), tt);
-  recorded = record { each = (refl, tt); known = (refl, tt) };
-  final = record { last = refl; order = order; nodes = refl };
-}
+unfolding first_world batch_step reach_of executed folded task_outcome found_at node_record change_between views_of
+lawful = grind (arith, met_index)
 
 good : IsGoodForm awaiting_session
-good = record {
-  queues = refl;
-  entries = refl;
-  order = order;
-  reads = refl;
-  nodes = refl;
-  nodes_distinct = refl;
-  last = record { cluster = refl; master = refl; nodes = refl; indices = refl; settings = refl };
-}
+good = grind arith
 
 pub awaiting_session_is_lawful : IsWorked awaiting_script awaiting_session
 awaiting_session_is_lawful = record { valid = awaiting_valid; lawful = lawful; good = good }

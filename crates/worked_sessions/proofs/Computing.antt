@@ -1,10 +1,9 @@
 -- Facts on numbers and predicates that are learnt by computing them.
-use Rattle.std.specs.Prelude.{◌≡◌, ℕ, ◌==◌, ◌≤◌, Bool, true, false, not, List, [], ◌∷◌, None, flat_map, is_some, length, IsTrue}
+use Rattle.std.specs.Prelude.{◌≡◌, ℕ, ◌==◌, ◌≤◌, Bool, true, false, List, [], ◌∷◌, flat_map, is_some, length}
 use Rattle.std.proofs.Common.{sym, ap, ◌∙◌}
 use Rattle.std.proofs.Math.Dec.{leb}
-use Rattle.std.proofs.lemmas.Bool.{false≢true, le-leb, leb-true}
+use Rattle.std.proofs.lemmas.Bool.{false≢true, le-leb}
 use Rattle.std.specs.Cmp.{unsigned_Decides}
-use Rattle.std.specs.List.{list_all}
 use Rattle.plain_data.specs.Pairs.{lookup}
 use Rattle.meta_state.specs.declared.predicates.Pred.{fold-roll-Pred}
 use Rattle.meta_state.specs.declared.predicates.Pred.TheOpen.{Pred-F}
@@ -15,16 +14,12 @@ use Rattle.session_law.specs.declared.batches.BatchResult.{BatchResult}
 use Rattle.session_law.specs.declared.batches.BatchResult.TheVariants as result
 use Rattle.session_law.specs.declared.node_records.NodeRec.{NodeRec}
 use Rattle.session_law.specs.NodeLines.{applied_versions}
-use Rattle.session_law.specs.Watches.{is_hit_by}
 
 -- what isn't so isn't asked
 pub never : {A : Type 0} → false ≡ true → A
 never e = absurd (false≢true e)
 
 -- ---- numbers
-
-pub at_most : (a b : ℕ) → leb a b ≡ true → a ≤ b
-at_most a b e = leb-true a b e
 
 -- one number isn't at most another
 pub beyond : {A : Type 0} → (a b : ℕ) → leb a b ≡ false → a ≤ b → A
@@ -43,10 +38,6 @@ met_index state name = ap (is_met state) (sym (rolls-Index name)) ∙ fold-roll-
 pub met_setting : (state : ClusterState) (key value : List ℕ) → is_met state (Setting key value) ≡ is_value value (lookup key state.metadata.settings)
 unfolding is_met
 met_setting state key value = ap (is_met state) (sym (rolls-Setting key value)) ∙ fold-roll-Pred Bool (met_step state) (Pred-F.Setting key value)
-
--- states that lack an index don't hit a part that waits for it
-pub lacked : (name : List ℕ) (states : List ClusterState) → IsTrue (list_all (λ s. not (is_some (lookup name s.metadata.indices))) states) → IsTrue (list_all (λ s. not (is_hit_by None (Index name) s)) states)
-lacked name states e = (λ i. list_all (λ s. not (met_index s name i)) states) ∙ e
 
 -- ---- what a changed part is told by
 

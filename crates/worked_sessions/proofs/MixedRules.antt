@@ -1,161 +1,33 @@
 -- The session with the other ends that tasks have keeps each of the eight rules, by computing them.
-use Rattle.std.specs.Prelude.{Bool, true, false, codes, refl}
+use Rattle.std.specs.Prelude.{Bool, true, false, refl}
 use Rattle.std.proofs.Common.{sym, ap, arith}
-use Rattle.std.specs.List.{AllByRecursion}
 use Rattle.meta_state.specs.Looks.{found_at}
 use Rattle.session_law.specs.declared.task_ends.TaskEnd.{TaskEnd}
 use Rattle.session_law.specs.declared.task_ends.TaskEnd.TheVariants as end
 use Rattle.executors.specs.Executions.{executed, folded}
 use Rattle.executors.specs.TaskRuns.{task_outcome}
-use Rattle.worked_sessions.proofs.Computing.{applied_in, at_most, beyond, diffs_in, first_in, id_in, lacked, met_index, never, unequal}
+use Rattle.worked_sessions.proofs.Computing.{applied_in, beyond, diffs_in, first_in, id_in, met_index, never, unequal}
 use Rattle.worked_sessions.proofs.ValidScripts.{mixed_valid}
-use Rattle.session_law.specs.Acknowledgements.{IsAcknowledged}
 use Rattle.session_law.specs.Changes.{change_between}
 use Rattle.session_law.specs.Committed.{is_published}
-use Rattle.session_law.specs.Endings.{EndsOnce}
 use Rattle.report_law.specs.GoodForm.{IsGoodForm}
-use Rattle.session_law.specs.Lawful.{AreInOrder, IsFinal, IsLawful, IsRecorded}
+use Rattle.session_law.specs.Lawful.{IsLawful}
 use Rattle.worked_sessions.specs.WorkedLaws.{AreMixedUnlawful, IsWorked}
-use Rattle.worked_sessions.specs.Mixed.{acknowledging_a_refusal, acknowledging_too_late, applying_after_it_left, awaited_part, beginning_as_a_member, counting_a_node_that_left, mixed_script, mixed_session, publishing_what_agrees, reading_behind_an_awaited_watch, refusing_one_of_a_failed_batch, refusing_the_first, sending_a_new_node_a_diff, using_up_an_identifier, watching_before_the_ack}
+use Rattle.worked_sessions.specs.Mixed.{acknowledging_a_refusal, acknowledging_too_late, applying_after_it_left, beginning_as_a_member, counting_a_node_that_left, mixed_script, mixed_session, publishing_what_agrees, reading_behind_an_awaited_watch, refusing_one_of_a_failed_batch, refusing_the_first, sending_a_new_node_a_diff, using_up_an_identifier, watching_before_the_ack}
 use Rattle.session_law.specs.NodeRecords.{node_record}
-use Rattle.session_law.specs.Publications.{reach_all}
-use Rattle.session_law.specs.Reads.{IsPlaced, IsRead, is_all}
-use Rattle.session_law.specs.SerialHistories.{IsSerialHistory}
+use Rattle.session_law.specs.Publications.{reach_of}
+use Rattle.session_law.specs.Reads.{is_all}
 use Rattle.session_law.specs.BatchSteps.{batch_step}
 use Rattle.session_law.specs.Summaries.{is_ok}
 use Rattle.session_law.specs.Views.{views_of}
-use Rattle.session_law.specs.Watches.{IsWatched, passed_by, states_at}
 use Rattle.session_law.specs.Worlds.{first_world}
 
-serial : IsSerialHistory mixed_script mixed_session.batches
-unfolding first_world batch_step reach_all executed folded task_outcome
-serial = record {
-  serial = record {
-    results = (refl, (refl, (refl, (refl, (refl, tt)))));
-    filled = (omega arith, (omega arith, (omega arith, (omega arith, (omega arith, tt)))));
-    own = (refl, (refl, (refl, (refl, (refl, (refl, tt))))));
-    apart = (
-      (record { other = refl; rises = λ e _. never e }, (record { other = refl; rises = λ e _. never e }, (record { other = refl; rises = λ e _. never e }, (record { other = refl; rises = λ e _. never e }, (record { other = refl; rises = λ _ e. unequal 0 1 refl e }, tt))))),
-      (
-        (record { other = refl; rises = λ _ e. unequal 0 1 refl e }, (record { other = refl; rises = λ e _. never e }, (record { other = refl; rises = λ e _. never e }, (record { other = refl; rises = λ e _. never e }, tt)))),
-        (
-          (record { other = refl; rises = λ e _. never e }, (record { other = refl; rises = λ e _. never e }, (record { other = refl; rises = λ e _. never e }, tt))),
-          (
-            (record { other = refl; rises = λ e _. never e }, (record { other = refl; rises = λ e _. never e }, tt)),
-            (
-              (record { other = refl; rises = λ e _. never e }, tt),
-              (
-                tt,
-                tt,
-              ),
-            ),
-          ),
-        ),
-      ),
-    );
-    seen = ((omega arith, tt), ((omega arith, (omega arith, tt)), ((omega arith, tt), ((omega arith, tt), ((omega arith, tt), tt)))));
-  };
-  seen = (refl, (refl, (refl, (refl, (refl, (refl, tt))))));
-}
-
-ended : EndsOnce mixed_script mixed_session.batches mixed_session.replies
-unfolding first_world batch_step reach_all executed folded task_outcome
-ended = record {
-  ended = (
-    record { submit = refl; end = refl; after_close = never },
-    (
-      record { submit = refl; end = refl; after_close = never },
-      (
-        record { submit = refl; end = refl; after_close = never },
-        (
-          record { submit = refl; end = refl; after_close = never },
-          (
-            record { submit = refl; end = refl; after_close = never },
-            (
-              record { submit = refl; end = refl; after_close = never },
-              tt,
-            ),
-          ),
-        ),
-      ),
-    ),
-  );
-  once = (never, ((λ _. refl), (never, ((λ _. refl), (never, (never, (never, ((λ _. refl), ((λ _. refl), ((λ _. refl), (never, ((λ _. refl), tt))))))))))));
-}
-
-acknowledged : IsAcknowledged mixed_script mixed_session.batches mixed_session.acks
-unfolding first_world batch_step reach_all executed folded task_outcome
-acknowledged = record {
-  answered = (refl, (refl, (refl, tt)));
-  once = (never, ((λ _. refl), (never, (never, (never, (never, (never, (never, (never, ((λ _. refl), (never, ((λ _. refl), tt))))))))))));
-}
-
-watched : IsWatched mixed_script mixed_session.batches mixed_session.watches
-unfolding first_world batch_step reach_all executed folded task_outcome
-watched = record {
-  parts = (
-    record {
-      begins = refl;
-      shown = omega arith;
-      within = at_most _ _ refl;
-      passed = lacked (codes "a") (passed_by (states_at mixed_script mixed_session.batches 0 4) (awaited_part 1 2)) refl;
-      ends = (met_index _ _, refl);
-      after_close = never;
-    },
-    tt,
-  );
-  once = (refl, tt);
-  begun = (never, (never, (never, (never, ((λ _. refl), (never, (never, (never, (never, (never, (never, (never, tt))))))))))));
-  continued = (never, tt);
-}
-
-read : IsRead mixed_script mixed_session
-unfolding first_world batch_step reach_all executed folded task_outcome found_at
-read = record {
-  found = ((refl, (at_most _ _ refl, refl)), ((refl, (at_most _ _ refl, refl)), tt));
-  once = ((λ _. refl), (never, (never, (never, (never, (never, ((λ _. refl), (never, (never, (never, (never, (never, tt))))))))))));
-}
-
-placed : AllByRecursion (IsPlaced mixed_script mixed_session) mixed_session.watches
-unfolding first_world batch_step reach_all executed folded task_outcome
-placed = ((λ _. at_most _ _ refl), tt)
-
-recorded : IsRecorded mixed_script mixed_session
-unfolding first_world batch_step reach_all executed folded task_outcome node_record change_between views_of
-recorded = record {
-  each = (refl, (refl, tt));
-  known = (refl, (refl, tt));
-}
-
-order : AreInOrder mixed_session
-order = record { replies = refl; acks = refl; watches = refl; reads = refl }
-
-final : IsFinal mixed_script mixed_session
-unfolding first_world batch_step reach_all executed folded task_outcome
-final = record { last = refl; order = order; nodes = refl }
-
 lawful : IsLawful mixed_script mixed_session
-lawful = record {
-  serial = serial;
-  ended = ended;
-  acknowledged = acknowledged;
-  watched = watched;
-  read = read;
-  placed = placed;
-  recorded = recorded;
-  final = final;
-}
+unfolding first_world batch_step reach_of executed folded task_outcome found_at node_record change_between views_of
+lawful = grind (arith, met_index)
 
 good : IsGoodForm mixed_session
-good = record {
-  queues = refl;
-  entries = refl;
-  order = order;
-  reads = refl;
-  nodes = refl;
-  nodes_distinct = refl;
-  last = record { cluster = refl; master = refl; nodes = refl; indices = refl; settings = refl };
-}
+good = grind arith
 
 pub mixed_session_is_lawful : IsWorked mixed_script mixed_session
 mixed_session_is_lawful = record { valid = mixed_valid; lawful = lawful; good = good }
@@ -167,51 +39,51 @@ is_refused (end.Refused refusal) = true
 is_refused _ = false
 
 sends_a_new_node_a_diff : ¬ IsLawful mixed_script sending_a_new_node_a_diff
-unfolding first_world batch_step reach_all executed folded task_outcome
+unfolding first_world batch_step reach_of executed folded task_outcome
 sends_a_new_node_a_diff h = unequal 2 1 refl (ap diffs_in h.serial.serial.results.0)
 
 publishes_what_agrees : ¬ IsLawful mixed_script publishing_what_agrees
-unfolding first_world batch_step reach_all executed folded task_outcome
+unfolding first_world batch_step reach_of executed folded task_outcome
 publishes_what_agrees h = never (sym (ap is_published h.serial.serial.results.1.1.1.0))
 
 uses_up_an_identifier : ¬ IsLawful mixed_script using_up_an_identifier
-unfolding first_world batch_step reach_all executed folded task_outcome
+unfolding first_world batch_step reach_of executed folded task_outcome
 uses_up_an_identifier h = unequal 5 4 refl (ap id_in h.serial.serial.results.1.1.1.1.0)
 
 counts_a_node_that_left : ¬ IsLawful mixed_script counting_a_node_that_left
-unfolding first_world batch_step reach_all executed folded task_outcome
+unfolding first_world batch_step reach_of executed folded task_outcome
 counts_a_node_that_left h = unequal 2 1 refl (ap diffs_in h.serial.serial.results.1.1.1.1.0)
 
 refuses_the_first : ¬ IsLawful mixed_script refusing_the_first
-unfolding first_world batch_step reach_all executed folded task_outcome
+unfolding first_world batch_step reach_of executed folded task_outcome
 refuses_the_first h = never (ap is_ok h.ended.ended.1.0.end)
 
 refuses_one_of_a_failed_batch : ¬ IsLawful mixed_script refusing_one_of_a_failed_batch
-unfolding first_world batch_step reach_all executed folded task_outcome is_refused
+unfolding first_world batch_step reach_of executed folded task_outcome is_refused
 refuses_one_of_a_failed_batch h = never (sym (ap is_refused h.ended.ended.1.1.1.0.end))
 
 acknowledges_a_refusal : ¬ IsLawful mixed_script acknowledging_a_refusal
-unfolding first_world batch_step reach_all executed folded task_outcome
+unfolding first_world batch_step reach_of executed folded task_outcome
 acknowledges_a_refusal h = h.acknowledged.answered.1.0
 
 acknowledges_too_late : ¬ IsLawful mixed_script acknowledging_too_late
-unfolding first_world batch_step reach_all executed folded task_outcome
+unfolding first_world batch_step reach_of executed folded task_outcome
 acknowledges_too_late h = never (sym (ap is_all h.acknowledged.answered.1.1.0))
 
 watches_before_the_ack : ¬ IsLawful mixed_script watching_before_the_ack
-unfolding first_world batch_step reach_all executed folded task_outcome
+unfolding first_world batch_step reach_of executed folded task_outcome
 watches_before_the_ack h = beyond 2 0 refl (h.placed.0 refl)
 
 reads_behind_an_awaited_watch : ¬ IsLawful mixed_script reading_behind_an_awaited_watch
-unfolding first_world batch_step reach_all executed folded task_outcome
+unfolding first_world batch_step reach_of executed folded task_outcome
 reads_behind_an_awaited_watch h = beyond 3 2 refl h.read.found.1.0.1.0
 
 begins_as_a_member : ¬ IsLawful mixed_script beginning_as_a_member
-unfolding first_world batch_step reach_all executed folded task_outcome node_record
+unfolding first_world batch_step reach_of executed folded task_outcome node_record
 begins_as_a_member h = unequal 1 0 refl (ap first_in h.recorded.each.1.0)
 
 applies_after_it_left : ¬ IsLawful mixed_script applying_after_it_left
-unfolding first_world batch_step reach_all executed folded task_outcome node_record
+unfolding first_world batch_step reach_of executed folded task_outcome node_record
 applies_after_it_left h = unequal 4 3 refl (ap applied_in h.recorded.each.1.0)
 
 pub changed_mixed_sessions_are_unlawful : AreMixedUnlawful

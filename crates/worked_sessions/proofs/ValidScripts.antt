@@ -1,13 +1,12 @@
 -- The scripts of the worked sessions are valid: every name, reference, range and limit, by computing it, but for the depth
 -- of the predicates that they watch for.
-use Rattle.std.specs.Prelude.{◌≡◌, ℕ, ◌&&◌, true, List, codes, nat_le, IsTrue, refl}
-use Rattle.std.specs.List.{list_all}
+use Rattle.std.specs.Prelude.{◌≡◌, ℕ, true, List, nat_le}
 use Rattle.std.proofs.Common.{sym, ap, ◌∙◌, arith}
 use Rattle.meta_state.specs.declared.predicates.Pred.{fold-roll-Pred}
 use Rattle.meta_state.specs.declared.predicates.Pred.TheOpen.{Pred-F}
 use Rattle.meta_state.specs.declared.predicates.Pred.TheVariants.{Index, Setting, rolls-Index, rolls-Setting}
 use Rattle.scripts.specs.Scripts.{IsScript}
-use Rattle.scripts.specs.Steps.{depth_of, depth_step, is_client, is_pred}
+use Rattle.scripts.specs.ValidSteps.{depth_of, depth_step, is_pred}
 use Rattle.worked_sessions.specs.Awaiting.{awaiting_script}
 use Rattle.worked_sessions.specs.Mixed.{mixed_script}
 use Rattle.worked_sessions.specs.Stopped.{stopped_script}
@@ -20,133 +19,17 @@ index_pred name = ap (λ d. nat_le d 16) (ap depth_of (sym (rolls-Index name)) �
 setting_pred : (key value : List ℕ) → is_pred (Setting key value) ≡ true
 setting_pred key value = ap (λ d. nat_le d 16) (ap depth_of (sym (rolls-Setting key value)) ∙ fold-roll-Pred ℕ depth_step (Pred-F.Setting key value))
 
--- a step that watches for an index alone
-index_watched : (name : List ℕ) → ((is_pred (Index name) && true) && true) ≡ true
-index_watched name = λ i. (index_pred name i && true) && true
-
-awaiting_clients : IsTrue (list_all (is_client awaiting_script.nodes awaiting_script.queues) awaiting_script.clients)
-awaiting_clients = λ i. (index_watched (codes "a") i && true) && true
-
-worked_clients : IsTrue (list_all (is_client worked_script.nodes worked_script.queues) worked_script.clients)
-worked_clients = λ i. (index_watched (codes "a") i && true) && ((index_watched (codes "b") i && true) && true)
-
-stopped_clients : IsTrue (list_all (is_client stopped_script.nodes stopped_script.queues) stopped_script.clients)
-stopped_clients = λ i. (((index_pred (codes "a") i && (setting_pred (codes "k") (codes "v") i && true)) && true) && (index_watched (codes "c") i && (index_watched (codes "b") i && true))) && ((index_watched (codes "c") i && (index_watched (codes "c") i && true)) && true)
-
-mixed_clients : IsTrue (list_all (is_client mixed_script.nodes mixed_script.queues) mixed_script.clients)
-mixed_clients = λ i. (index_watched (codes "a") i && true) && true
-
 pub worked_valid : IsScript worked_script
-worked_valid = record {
-  version = refl;
-  cluster = refl;
-  nodes_limit = omega arith;
-  nodes_named = refl;
-  nodes_distinct = refl;
-  master = refl;
-  queues_limit = omega arith;
-  queues_named = refl;
-  queues_distinct = refl;
-  clients_limit = omega arith;
-  clients = worked_clients;
-  one_close = omega arith;
-  faults_limit = omega arith;
-  faults = refl;
-  faults_distinct = refl;
-  schedule_limit = omega arith;
-  schedule = refl;
-  work_of_publications = omega arith;
-  work_of_reads = omega arith;
-}
+worked_valid = grind (arith, index_pred, setting_pred)
 
 pub troubled_valid : IsScript troubled_script
-troubled_valid = record {
-  version = refl;
-  cluster = refl;
-  nodes_limit = omega arith;
-  nodes_named = refl;
-  nodes_distinct = refl;
-  master = refl;
-  queues_limit = omega arith;
-  queues_named = refl;
-  queues_distinct = refl;
-  clients_limit = omega arith;
-  clients = refl;
-  one_close = omega arith;
-  faults_limit = omega arith;
-  faults = refl;
-  faults_distinct = refl;
-  schedule_limit = omega arith;
-  schedule = refl;
-  work_of_publications = omega arith;
-  work_of_reads = omega arith;
-}
+troubled_valid = grind arith
 
 pub stopped_valid : IsScript stopped_script
-stopped_valid = record {
-  version = refl;
-  cluster = refl;
-  nodes_limit = omega arith;
-  nodes_named = refl;
-  nodes_distinct = refl;
-  master = refl;
-  queues_limit = omega arith;
-  queues_named = refl;
-  queues_distinct = refl;
-  clients_limit = omega arith;
-  clients = stopped_clients;
-  one_close = omega arith;
-  faults_limit = omega arith;
-  faults = refl;
-  faults_distinct = refl;
-  schedule_limit = omega arith;
-  schedule = refl;
-  work_of_publications = omega arith;
-  work_of_reads = omega arith;
-}
+stopped_valid = grind (arith, index_pred, setting_pred)
 
 pub mixed_valid : IsScript mixed_script
-mixed_valid = record {
-  version = refl;
-  cluster = refl;
-  nodes_limit = omega arith;
-  nodes_named = refl;
-  nodes_distinct = refl;
-  master = refl;
-  queues_limit = omega arith;
-  queues_named = refl;
-  queues_distinct = refl;
-  clients_limit = omega arith;
-  clients = mixed_clients;
-  one_close = omega arith;
-  faults_limit = omega arith;
-  faults = refl;
-  faults_distinct = refl;
-  schedule_limit = omega arith;
-  schedule = refl;
-  work_of_publications = omega arith;
-  work_of_reads = omega arith;
-}
+mixed_valid = grind (arith, index_pred, setting_pred)
 
 pub awaiting_valid : IsScript awaiting_script
-awaiting_valid = record {
-  version = refl;
-  cluster = refl;
-  nodes_limit = omega arith;
-  nodes_named = refl;
-  nodes_distinct = refl;
-  master = refl;
-  queues_limit = omega arith;
-  queues_named = refl;
-  queues_distinct = refl;
-  clients_limit = omega arith;
-  clients = awaiting_clients;
-  one_close = omega arith;
-  faults_limit = omega arith;
-  faults = refl;
-  faults_distinct = refl;
-  schedule_limit = omega arith;
-  schedule = refl;
-  work_of_publications = omega arith;
-  work_of_reads = omega arith;
-}
+awaiting_valid = grind (arith, index_pred, setting_pred)

@@ -1,6 +1,5 @@
 -- What is shown of the worked sessions: each is lawful and of good form, and with one thing changed it isn't lawful. It is
 -- this project's own.
-use Rattle.std.specs.Prelude.{not}
 use Rattle.scripts.specs.declared.whole_script.Script.{Script}
 use Rattle.scripts.specs.Scripts.{IsScript}
 use Rattle.session_law.specs.declared.sessions.Session.{Session}
