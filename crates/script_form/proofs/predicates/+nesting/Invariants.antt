@@ -1,7 +1,6 @@
-use Rattle.std.proofs.Common.{◌≡◌, ◌≤◌, ◌*◌, ◌+◌, drop, length, []}
+use Rattle.std.proofs.Common.{◌≡◌, ◌*◌, ◌+◌, drop, []}
 use Rattle.std.specs.Prelude.{map}
 use Rattle.serde_json.specs.View.{view}
-use Rattle.scripts.specs.ValidSteps.{deepest, depth_of}
 use Rattle.script_form.specs.Predicates.{pred_of, preds_by}
 use Rattle.script_form.proofs.predicates.+nesting.Given as goal
 
