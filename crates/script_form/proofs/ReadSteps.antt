@@ -9,7 +9,7 @@ use Rattle.serde_json.specs.Find.{as_str, as_array}
 use Rattle.meta_state.specs.declared.predicates.Pred.{Pred, fold-roll-Pred}
 use Rattle.meta_state.specs.declared.predicates.Pred.TheOpen.{Pred-F}
 use Rattle.meta_state.specs.declared.predicates.Pred.TheVariants as pred
-use Rattle.scripts.specs.Steps.{are_asked, deepest, depth_of, depth_step, is_ack, is_goal, is_if_some, is_positive_time, is_pred, is_step, is_task_of, is_time}
+use Rattle.scripts.specs.ValidSteps.{are_asked, deepest, depth_of, depth_step, is_ack, is_goal, is_if_some, is_positive_time, is_pred, is_step, is_task_of, is_time}
 use Rattle.script_form.specs.declared.limits.LimitName.TheVariants.{Depth, Then}
 use Rattle.script_form.specs.declared.misfits.Misfit.{Misfit}
 use Rattle.script_form.specs.declared.rules.Rule.TheVariants.{Reference, Twice, Value}

@@ -17,7 +17,7 @@ use Rattle.scripts.specs.declared.whole_script.ScriptTurn.TheVariants as turn
 use Rattle.scripts.specs.Built.{IsBuilt, is_built}
 use Rattle.scripts.specs.Names.{is_name}
 use Rattle.scripts.specs.Scripts.{IsScript, is_close, is_fault, is_master, is_turn}
-use Rattle.scripts.specs.Steps.{is_node_among, is_positive_time, is_step}
+use Rattle.scripts.specs.ValidSteps.{is_node_among, is_positive_time, is_step}
 use Rattle.script_form.specs.declared.limits.LimitName.TheVariants.{Clients, Faults, Schedule, Steps, Work}
 use Rattle.script_form.specs.declared.misfits.Misfit.{Misfit}
 use Rattle.script_form.specs.declared.refusals.ScriptRefusal.{ScriptRefusal}
@@ -212,3 +212,9 @@ script_valid bytes = data_valid (data_of bytes)
 
 pub read_valid : (bytes : List ℕ) (script : Script) → script_of bytes ≡ Ok script → IsReady script
 read_valid bytes script e = subst (λ (r : Result Script ScriptRefusal). IfOk r IsReady) e (script_valid bytes)
+
+pub whole_read : (d : Data) (script : Script) → whole_script d ≡ Ok script → IsReady script
+whole_read d script e = subst (λ (r : Result Script Misfit). IfOk r IsReady) e (whole_valid d)
+
+pub parts_read : (d : Data) (script : Script) → parts_of d ≡ Ok script → AreParts script
+parts_read d script e = subst (λ (r : Result Script Misfit). IfOk r AreParts) e (parts_valid d)

@@ -12,7 +12,7 @@ use Rattle.executors.specs.declared.task_forms.TaskForm.TheVariants as form
 use Rattle.scripts.specs.declared.whole_script.ScriptNode.{ScriptNode}
 use Rattle.scripts.specs.declared.queues.QueueSpec.{QueueSpec}
 use Rattle.scripts.specs.Names.{is_name}
-use Rattle.scripts.specs.Steps.{is_node_among, is_node_so, is_positive_time, is_task_of, is_time}
+use Rattle.scripts.specs.ValidSteps.{is_node_among, is_node_so, is_positive_time, is_task_of, is_time}
 use Rattle.script_form.specs.declared.limits.LimitName.{LimitName}
 use Rattle.script_form.specs.declared.limits.LimitName.TheVariants.{Nodes, Queues}
 use Rattle.script_form.specs.declared.misfits.Misfit.{Misfit}

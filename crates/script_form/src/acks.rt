@@ -22,8 +22,7 @@ pub(crate) fn ack_or_none(
     nodes: &[ScriptNode],
     value: &Value,
 ) -> Result<Option<Ack>, Misfit>
-    ensures exact { Reads (λ a. a) result (optional (codes "ack") None (some_ack_of nodes.now) (view value.now)) }
-    ensures valid { IfOk result (λ ack. IsTrue (is_if_some (is_ack nodes.now) ack)) }
+    ensures { Reads (λ a. a) result (optional (codes "ack") None (some_ack_of nodes.now) (view value.now)) }
 {
     match value.get("ack") {
         None => Ok(None),
@@ -33,8 +32,7 @@ pub(crate) fn ack_or_none(
 
 #[tactic(auto, unfolding(crate::specs::Steps::ack_of))]
 fn ack_in(alloc: Global, nodes: &[ScriptNode], value: &Value) -> Result<Ack, Misfit>
-    ensures exact { Reads (λ a. a) result (ack_of nodes.now (view value.now)) }
-    ensures valid { IfOk result (λ ack. IsTrue (is_ack nodes.now ack)) }
+    ensures { Reads (λ a. a) result (ack_of nodes.now (view value.now)) }
 {
     check_members(alloc, value, &["nodes", "timeout"])?;
     let asked = member(alloc, value, "nodes")?;
@@ -48,8 +46,7 @@ fn ack_in(alloc: Global, nodes: &[ScriptNode], value: &Value) -> Result<Ack, Mis
 
 /// The timeout, if there is one, in milliseconds.
 fn time_or_none(alloc: Global, value: &Value) -> Result<Option<u64>, Misfit>
-    ensures exact { Reads (λ t. t) result (optional (codes "timeout") None some_time_of (view value.now)) }
-    ensures valid { IfOk result (λ t. IsTrue (is_if_some is_time t)) }
+    ensures { Reads (λ t. t) result (optional (codes "timeout") None some_time_of (view value.now)) }
 {
     match value.get("timeout") {
         None => Ok(None),
@@ -63,8 +60,7 @@ fn asked_in(
     nodes: &[ScriptNode],
     value: &Value,
 ) -> Result<Option<Items<Text>>, Misfit>
-    ensures exact { Reads (λ a. a) result (asked_of nodes.now (view value.now)) }
-    ensures valid { IfOk result (λ asked. IsTrue (is_if_some (are_asked nodes.now) asked)) }
+    ensures { Reads (λ a. a) result (asked_of nodes.now (view value.now)) }
 {
     match value.as_str() {
         Some("all") => Ok(None),
@@ -75,8 +71,7 @@ fn asked_in(
 
 /// The asked nodes of a list.
 fn asked_among(alloc: Global, nodes: &[ScriptNode], values: &[Value]) -> Result<Items<Text>, Misfit>
-    ensures exact { Reads (λ a. a) result (each (next_asked nodes.now) [] (map view values.now)) }
-    ensures valid { IfOk result (λ asked. IsTrue (are_asked nodes.now asked)) }
+    ensures { Reads (λ a. a) result (each (next_asked nodes.now) [] (map view values.now)) }
 {
     read_each(alloc, &AskedReader { nodes }, values)
 }
@@ -92,13 +87,8 @@ impl<'a> ListReader for AskedReader<'a> {
 
     ghost reads = { λ r. next_asked r.nodes.now };
 
-    ghost holds = { λ r names. IsTrue (are_asked r.nodes.now names) };
-
     ghost most = { λ _. 2 ^ 64 };
 
-    ghost begins = { λ _. refl };
-
-    #[tactic(auto, using(crate::proofs::Names::are_asked_push))]
     fn read_next(&self, alloc: Global, before: &[Text], value: &Value) -> Result<Text, Misfit> {
         let node = node_named_in(alloc, self.nodes, value)?;
         if is_among(before, node.name.as_str()) {

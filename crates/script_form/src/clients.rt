@@ -24,9 +24,7 @@ pub(crate) fn clients_in(
     value: &Value,
 ) -> Result<Items<Items<Step>>, Misfit>
     requires { length queues.now ≤ 64 }
-    ensures exact { Reads (λ c. c) result (clients_of nodes.now queues.now (view value.now)) }
-    ensures limit { IfOk result (λ clients. length clients ≤ 32) }
-    ensures valid { IfOk result (AreClients nodes.now queues.now) }
+    ensures { Reads (λ c. c) result (clients_of nodes.now queues.now (view value.now)) }
 {
     let values = values_up_to(alloc, value, 32, LimitName::Clients)?;
     read_each(alloc, &ClientReader { nodes, queues }, values)
@@ -45,13 +43,8 @@ impl<'a> ListReader for ClientReader<'a> {
 
     ghost reads = { λ r. next_client r.nodes.now r.queues.now };
 
-    ghost holds = { λ r. AreClients r.nodes.now r.queues.now };
-
     ghost most = { λ _. 32 };
 
-    ghost begins = { λ _. record { valid = refl; once = starts_once false } };
-
-    #[tactic(auto, using(crate::proofs::Closing::clients_push))]
     fn read_next(
         &self,
         alloc: Global,
@@ -77,9 +70,7 @@ fn steps_in(
     value: &Value,
 ) -> Result<Items<Step>, Misfit>
     requires { length queues.now ≤ 64 }
-    ensures exact { Reads (λ s. s) result (steps_of nodes.now queues.now closed (view value.now)) }
-    ensures limit { IfOk result (λ steps. length steps ≤ 4096) }
-    ensures valid { IfOk result (AreSteps nodes.now queues.now closed) }
+    ensures { Reads (λ s. s) result (steps_of nodes.now queues.now closed (view value.now)) }
 {
     let values = values_up_to(alloc, value, 4096, LimitName::Steps)?;
     let reader = StepReader {
@@ -104,13 +95,8 @@ impl<'a> ListReader for StepReader<'a> {
 
     ghost reads = { λ r. next_step r.nodes.now r.queues.now r.closed };
 
-    ghost holds = { λ r. AreSteps r.nodes.now r.queues.now r.closed };
-
     ghost most = { λ _. 4096 };
 
-    ghost begins = { λ _. record { valid = refl; once = starts_once _ } };
-
-    #[tactic(auto, using(crate::proofs::Closing::steps_push))]
     fn read_next(&self, alloc: Global, before: &[Step], value: &Value) -> Result<Step, Misfit> {
         let step = step_in(alloc, self.nodes, self.queues, before, value)?;
         check_step(alloc, self.closed, before, step)
@@ -119,9 +105,7 @@ impl<'a> ListReader for StepReader<'a> {
 
 /// Asks that a step not close where an earlier one does, of this client or, as `closed` says, of another.
 fn check_step(alloc: Global, closed: bool, before: &[Step], step: Step) -> Result<Step, Misfit>
-    ensures exact { Reads (λ s. s) result (fit_step (closed || list_any is_close before.now) step) }
-    ensures passes { IfOk result (λ s. s ≡ step) }
-    ensures once { IfOk result (λ s. (is_close s && (closed || list_any is_close before.now)) ≡ false) }
+    ensures { Reads (λ s. s) result (fit_step (closed || list_any is_close before.now) step) }
 {
     if is_closing(&step) && (closed || does_close(before)) {
         Err(against(alloc, Rule::Close))

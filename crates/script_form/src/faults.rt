@@ -24,9 +24,7 @@ pub(crate) fn faults_in(
     nodes: &[ScriptNode],
     value: &Value,
 ) -> Result<Items<Fault>, Misfit>
-    ensures exact { Reads (λ f. f) result (faults_of nodes.now (view value.now)) }
-    ensures limit { IfOk result (λ faults. length faults ≤ 1024) }
-    ensures valid { IfOk result (AreFaults nodes.now) }
+    ensures { Reads (λ f. f) result (faults_of nodes.now (view value.now)) }
 {
     let values = values_up_to(alloc, value, 1024, LimitName::Faults)?;
     read_each(alloc, &FaultReader { nodes }, values)
@@ -43,13 +41,8 @@ impl<'a> ListReader for FaultReader<'a> {
 
     ghost reads = { λ r. next_fault r.nodes.now };
 
-    ghost holds = { λ r. AreFaults r.nodes.now };
-
     ghost most = { λ _. 1024 };
 
-    ghost begins = { λ _. record { valid = refl; distinct = refl } };
-
-    #[tactic(auto, using(crate::proofs::Places::faults_push))]
     fn read_next(&self, alloc: Global, before: &[Fault], value: &Value) -> Result<Fault, Misfit> {
         let fault = fault_in(alloc, self.nodes, value)?;
         check_fault(alloc, before, fault)
@@ -58,9 +51,7 @@ impl<'a> ListReader for FaultReader<'a> {
 
 /// Asks that no fault be at the same publication to the same node.
 fn check_fault(alloc: Global, before: &[Fault], fault: Fault) -> Result<Fault, Misfit>
-    ensures exact { Reads (λ f. f) result (fit_fault before.now fault) }
-    ensures passes { IfOk result (λ f. f ≡ fault) }
-    ensures apart { IfOk result (λ f. list_any (is_same_place f) before.now ≡ false) }
+    ensures { Reads (λ f. f) result (fit_fault before.now fault) }
 {
     if has_fault(before, &fault) {
         Err(against(alloc, Rule::Twice))
@@ -77,8 +68,7 @@ fn has_fault(faults: &[Fault], fault: &Fault) -> bool
 
 #[tactic(auto, unfolding(crate::specs::Faults::fault_of))]
 fn fault_in(alloc: Global, nodes: &[ScriptNode], value: &Value) -> Result<Fault, Misfit>
-    ensures exact { Reads (λ f. f) result (fault_of nodes.now (view value.now)) }
-    ensures valid { IfOk result (λ fault. IsTrue (is_fault nodes.now fault)) }
+    ensures { Reads (λ f. f) result (fault_of nodes.now (view value.now)) }
 {
     check_members(alloc, value, &["node", "publication", "kind"])?;
     let named = member(alloc, value, "node")?;
@@ -96,9 +86,7 @@ fn fault_in(alloc: Global, nodes: &[ScriptNode], value: &Value) -> Result<Fault,
 
 /// The name of a node other than the master.
 fn follower_in(alloc: Global, nodes: &[ScriptNode], value: &Value) -> Result<Text, Misfit>
-    ensures exact { Reads (λ n. n) result (follower_of nodes.now (view value.now)) }
-    ensures known { IfOk result (λ name. IsTrue (is_node_among nodes.now name)) }
-    ensures follows { IfOk result (λ name. is_master nodes.now name ≡ false) }
+    ensures { Reads (λ n. n) result (follower_of nodes.now (view value.now)) }
 {
     let node = node_named_in(alloc, nodes, value)?;
     if leads(nodes, node.name.as_str()) {

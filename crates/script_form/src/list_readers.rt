@@ -18,9 +18,6 @@ pub(crate) trait ListReader {
     /// What a value says after those before it.
     ghost reads: { Self → List Self.Item → Data → Result Self.Item Misfit };
 
-    /// What holds of all that was read so far.
-    ghost holds: { Self → List Self.Item → Type 0 };
-
     /// How many values there may be.
     ghost most: { Self → ℕ };
 
@@ -31,12 +28,8 @@ pub(crate) trait ListReader {
         before: &[Self::Item],
         value: &Value,
     ) -> Result<Self::Item, Misfit>
-        requires few { length before.now < most self.now }
-        requires valid { holds self.now before.now }
-        ensures exact { Reads (λ a. a) result (reads self.now before.now (view value.now)) }
-        ensures valid { IfOk result (λ item. holds self.now (before.now ++ item ∷ [])) };
-
-    ghost begins: { (reader : Self) → holds reader [] };
+        requires { length before.now < most self.now }
+        ensures { Reads (λ a. a) result (reads self.now before.now (view value.now)) };
 }
 
 /// Reads the values of a list, one after the other. A misfit is seen from the list.
@@ -48,7 +41,6 @@ pub(crate) fn read_each<R: ListReader>(
     requires { length values.now ≤ R.most reader.now }
     ensures exact { Reads (λ a. a) result (each (R.reads reader.now) [] (map view values.now)) }
     ensures count { IfOk result (λ items. length items ≡ length values.now) }
-    ensures valid { IfOk result (R.holds reader.now) }
 {
     let mut items = Items::new(alloc);
     for value in values {

@@ -18,10 +18,8 @@ use serde_json::Value;
 use std::alloc::Global;
 
 /// The nodes of a script.
-#[tactic(auto, using(crate::proofs::Names::led_nodes))]
 pub(crate) fn nodes_in(alloc: Global, value: &Value) -> Result<Items<ScriptNode>, Misfit>
-    ensures exact { Reads (λ n. n) result (nodes_of (view value.now)) }
-    ensures valid { IfOk result AreNodes }
+    ensures { Reads (λ n. n) result (nodes_of (view value.now)) }
 {
     let values = values_up_to(alloc, value, 30, LimitName::Nodes)?;
     if values.is_empty() {
@@ -39,13 +37,8 @@ impl ListReader for NodeReader {
 
     ghost reads = { λ _. next_node };
 
-    ghost holds = { λ _. AreLed };
-
     ghost most = { λ _. 30 };
 
-    ghost begins = { λ _. record { names = record { named = refl; distinct = refl }; led = refl } };
-
-    #[tactic(auto, using(crate::proofs::Names::led_push))]
     fn read_next(
         &self,
         alloc: Global,
@@ -59,8 +52,7 @@ impl ListReader for NodeReader {
 
 #[tactic(auto, unfolding(crate::specs::Nodes::node_of))]
 fn node_in(alloc: Global, value: &Value) -> Result<ScriptNode, Misfit>
-    ensures exact { Reads (λ n. n) result (node_of (view value.now)) }
-    ensures valid { IfOk result (λ node. IsTrue (is_name node.name)) }
+    ensures { Reads (λ n. n) result (node_of (view value.now)) }
 {
     check_members(alloc, value, &["name", "eligible", "member"])?;
     let name = in_member(alloc, "name", name_in(alloc, member(alloc, value, "name")?))?;
@@ -75,10 +67,7 @@ fn node_in(alloc: Global, value: &Value) -> Result<ScriptNode, Misfit>
 
 /// Asks that a node have a name of its own, and that the first be fit to be the master.
 fn check_node(alloc: Global, before: &[ScriptNode], node: ScriptNode) -> Result<ScriptNode, Misfit>
-    requires { IsTrue (is_name node.name) }
-    ensures exact { Reads (λ n. n) result (fit_node before.now node) }
-    ensures new { IfOk result (IsNewTo node_name before.now) }
-    ensures fit { IfOk result (λ node. IsTrue (is_fit_first before.now node)) }
+    ensures { Reads (λ n. n) result (fit_node before.now node) }
 {
     if before.is_empty() {
         if node.eligible && node.member {
@@ -100,15 +89,12 @@ fn has_node(nodes: &[ScriptNode], name: &str) -> bool
 }
 
 /// The node that a text names.
-#[tactic(auto, using(crate::proofs::Names::is_node_found, crate::proofs::Names::is_node_so_found))]
 pub(crate) fn node_named_in<'a>(
     alloc: Global,
     nodes: &'a [ScriptNode],
     value: &Value,
 ) -> Result<&'a ScriptNode, Misfit>
-    ensures exact { Reads (λ n. n.now) result (node_named nodes.now (view value.now)) }
-    ensures known { IfOk result (λ node. IsTrue (is_node_among nodes.now node.now.name)) }
-    ensures so { IfOk result (λ node. IsTrue (is_node_so nodes.now node.now.name node.now.eligible)) }
+    ensures { Reads (λ n. n.now) result (node_named nodes.now (view value.now)) }
 {
     let text = text_in(alloc, value)?;
     match find(nodes, text.as_bytes()) {

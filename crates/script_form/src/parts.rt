@@ -159,8 +159,7 @@ pub(crate) fn whole_in(alloc: Global, value: &Value) -> Result<u64, Misfit>
 
 /// A time, in milliseconds.
 pub(crate) fn time_in(alloc: Global, value: &Value) -> Result<u64, Misfit>
-    ensures exact { Reads (λ n. n) result (time_of (view value.now)) }
-    ensures valid { IfOk result (λ ms. IsTrue (is_time ms)) }
+    ensures { Reads (λ n. n) result (time_of (view value.now)) }
 {
     let ms = whole_in(alloc, value)?;
     if ms <= LONGEST {
@@ -172,8 +171,7 @@ pub(crate) fn time_in(alloc: Global, value: &Value) -> Result<u64, Misfit>
 
 /// A whole number from 1 to 4,294,967,295.
 pub(crate) fn positive_in(alloc: Global, value: &Value) -> Result<u64, Misfit>
-    ensures exact { Reads (λ n. n) result (positive_of (view value.now)) }
-    ensures valid { IfOk result (λ ms. IsTrue (is_positive_time ms)) }
+    ensures { Reads (λ n. n) result (positive_of (view value.now)) }
 {
     let ms = whole_in(alloc, value)?;
     if 1 <= ms && ms <= LONGEST {
@@ -210,8 +208,7 @@ pub(crate) fn whole_or(alloc: Global, value: &Value, key: &str, default: u64) ->
 
 /// A time that may be left out, in milliseconds, and is 0 then.
 pub(crate) fn time_or_zero(alloc: Global, value: &Value, key: &str) -> Result<u64, Misfit>
-    ensures exact { Reads (λ n. n) result (optional key.now 0 time_of (view value.now)) }
-    ensures valid { IfOk result (λ ms. IsTrue (is_time ms)) }
+    ensures { Reads (λ n. n) result (optional key.now 0 time_of (view value.now)) }
 {
     match value.get(key) {
         None => Ok(0),
@@ -235,8 +232,7 @@ pub(crate) fn whole_at(alloc: Global, value: &Value, key: &str) -> Result<u64, M
 
 /// A name of a cluster, a node or a queue.
 pub(crate) fn name_in(alloc: Global, value: &Value) -> Result<Text, Misfit>
-    ensures exact { Reads (λ t. t) result (name_of (view value.now)) }
-    ensures valid { IfOk result (λ name. IsTrue (is_name name)) }
+    ensures { Reads (λ t. t) result (name_of (view value.now)) }
 {
     let text = text_in(alloc, value)?;
     if !is_a_name(text) {

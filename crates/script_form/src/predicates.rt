@@ -20,18 +20,14 @@ const DEEPEST: u32 = 16;
 
 /// A predicate.
 pub(crate) fn outer_pred_in(alloc: Global, value: &Value) -> Result<Pred, Misfit>
-    ensures exact { Reads (λ p. p) result (pred_of 16 (view value.now)) }
-    ensures valid { IfOk result (λ pred. IsTrue (is_pred pred)) }
+    ensures { Reads (λ p. p) result (pred_of 16 (view value.now)) }
 {
     pred_in(alloc, value, DEEPEST)
 }
 
 /// Predicates, each to be met after the one before it.
-#[tactic(auto, using(crate::proofs::Depths::are_preds_by_depth))]
 pub(crate) fn thens_in(alloc: Global, value: &Value) -> Result<Items<Pred>, Misfit>
-    ensures exact { Reads (λ ps. ps) result (thens_of (view value.now)) }
-    ensures limit { IfOk result (λ ps. length ps ≤ 8) }
-    ensures valid { IfOk result (λ ps. IsTrue (list_all is_pred ps)) }
+    ensures { Reads (λ ps. ps) result (thens_of (view value.now)) }
 {
     preds_in(
         alloc,
@@ -44,8 +40,7 @@ pub(crate) fn thens_in(alloc: Global, value: &Value) -> Result<Items<Pred>, Misf
 #[cycle(nesting)]
 #[tactic(auto, using(crate::proofs::Depths::pred_of_none, crate::proofs::Depths::pred_of_more))]
 fn pred_in(alloc: Global, value: &Value, left: u32) -> Result<Pred, Misfit>
-    ensures exact { Reads (λ p. p) result (pred_of left (view value.now)) }
-    ensures depth { IfOk result (λ pred. depth_of pred ≤ left) }
+    ensures { Reads (λ p. p) result (pred_of left (view value.now)) }
 {
     let (word, inner) = choice_in(alloc, value)?;
     if left == 0 {
@@ -58,8 +53,7 @@ fn pred_in(alloc: Global, value: &Value, left: u32) -> Result<Pred, Misfit>
 #[cycle(nesting)]
 #[tactic(auto, unfolding(crate::specs::Predicates::pred_by))]
 fn pred_by_word(alloc: Global, word: &str, value: &Value, left: u32) -> Result<Pred, Misfit>
-    ensures exact { Reads (λ p. p) result (pred_by (pred_of left) word.now (view value.now)) }
-    ensures depth { IfOk result (λ pred. depth_of pred ≤ left + 1) }
+    ensures { Reads (λ p. p) result (pred_by (pred_of left) word.now (view value.now)) }
 {
     match word {
         "index" => Ok(Pred::Index(any_text_in(alloc, value)?)),
@@ -80,9 +74,7 @@ fn pred_by_word(alloc: Global, word: &str, value: &Value, left: u32) -> Result<P
 /// Predicates in a list, each of which may nest `left` deep.
 #[cycle(nesting)]
 fn preds_in(alloc: Global, values: &[Value], left: u32) -> Result<Items<Pred>, Misfit>
-    ensures exact { Reads (λ ps. ps) result (preds_by (pred_of left) [] (map view values.now)) }
-    ensures depth { IfOk result (λ ps. deepest (map depth_of ps) ≤ left) }
-    ensures count { IfOk result (λ ps. length ps ≡ length values.now) }
+    ensures { Reads (λ ps. ps) result (preds_by (pred_of left) [] (map view values.now)) }
 {
     let mut preds = Items::new(alloc);
     for value in values {
@@ -95,16 +87,14 @@ fn preds_in(alloc: Global, values: &[Value], left: u32) -> Result<Items<Pred>, M
 /// The predicate at a place, seen from its list.
 #[cycle(nesting)]
 fn next_pred_in(alloc: Global, place: usize, value: &Value, left: u32) -> Result<Pred, Misfit>
-    ensures exact { Reads (λ p. p) result (within (at_place place) (pred_of left (view value.now))) }
-    ensures depth { IfOk result (λ pred. depth_of pred ≤ left) }
+    ensures { Reads (λ p. p) result (within (at_place place) (pred_of left (view value.now))) }
 {
     in_place(alloc, place, pred_in(alloc, value, left))
 }
 
 #[tactic(auto, unfolding(crate::specs::Predicates::setting_pred_of))]
 fn setting_pred_in(alloc: Global, value: &Value) -> Result<Pred, Misfit>
-    ensures exact { Reads (λ p. p) result (setting_pred_of (view value.now)) }
-    ensures depth { IfOk result (λ pred. depth_of pred ≡ 1) }
+    ensures { Reads (λ p. p) result (setting_pred_of (view value.now)) }
 {
     check_members(alloc, value, &["key", "value"])?;
     let key = text_at(alloc, value, "key")?;

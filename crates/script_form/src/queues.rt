@@ -21,7 +21,6 @@ use std::alloc::Global;
 /// The queues of a script.
 pub(crate) fn queues_in(alloc: Global, value: &Value) -> Result<Items<QueueSpec>, Misfit>
     ensures exact { Reads (λ q. q) result (queues_of (view value.now)) }
-    ensures named { IfOk result (AreNamed queue_name) }
     ensures limit { IfOk result (λ queues. length queues ≤ 64) }
 {
     let values = values_up_to(alloc, value, 64, LimitName::Queues)?;
@@ -37,13 +36,8 @@ impl ListReader for QueueReader {
 
     ghost reads = { λ _. next_queue };
 
-    ghost holds = { λ _. AreNamed queue_name };
-
     ghost most = { λ _. 64 };
 
-    ghost begins = { λ _. record { named = refl; distinct = refl } };
-
-    #[tactic(auto, using(crate::proofs::Names::names_push))]
     fn read_next(
         &self,
         alloc: Global,
@@ -57,9 +51,7 @@ impl ListReader for QueueReader {
 
 /// Asks that a queue have a name of its own.
 fn check_queue(alloc: Global, before: &[QueueSpec], queue: QueueSpec) -> Result<QueueSpec, Misfit>
-    requires { IsTrue (is_name queue.name) }
-    ensures exact { Reads (λ q. q) result (fit_queue before.now queue) }
-    ensures new { IfOk result (IsNewTo queue_name before.now) }
+    ensures { Reads (λ q. q) result (fit_queue before.now queue) }
 {
     if has_queue(before, queue.name.as_str()) {
         in_member(alloc, "name", Err(against(alloc, Rule::Twice)))
@@ -70,8 +62,7 @@ fn check_queue(alloc: Global, before: &[QueueSpec], queue: QueueSpec) -> Result<
 
 #[tactic(auto, unfolding(crate::specs::Queues::queue_of))]
 fn queue_in(alloc: Global, value: &Value) -> Result<QueueSpec, Misfit>
-    ensures exact { Reads (λ q. q) result (queue_of (view value.now)) }
-    ensures valid { IfOk result (λ queue. IsTrue (is_name queue.name)) }
+    ensures { Reads (λ q. q) result (queue_of (view value.now)) }
 {
     check_members(alloc, value, &["name", "executor", "priority"])?;
     let name = in_member(alloc, "name", name_in(alloc, member(alloc, value, "name")?))?;
@@ -158,8 +149,7 @@ pub(crate) fn queue_named_in(
     value: &Value,
 ) -> Result<(u32, Kind), Misfit>
     requires { length queues.now ≤ 64 }
-    ensures exact { Reads (λ q. q) result (queue_named queues.now (view value.now)) }
-    ensures valid { IfOk result (λ q. kind_at queues.now q.0 ≡ Some q.1) }
+    ensures { Reads (λ q. q) result (queue_named queues.now (view value.now)) }
 {
     match find(queues, text_in(alloc, value)?) {
         None => Err(against(alloc, Rule::Reference)),
@@ -170,8 +160,7 @@ pub(crate) fn queue_named_in(
 /// The place in the list of the queue of a name, and its executor.
 fn find(queues: &[QueueSpec], name: &str) -> Option<(u32, Kind)>
     requires { length queues.now ≤ 64 }
-    ensures exact { result ≡ find_queue 0 queues.now name.now }
-    ensures valid { IfSome result (λ q. kind_at queues.now q.0 ≡ Some q.1) }
+    ensures { result ≡ find_queue 0 queues.now name.now }
 {
     let mut number = 0;
     for queue in queues {

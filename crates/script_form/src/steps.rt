@@ -37,8 +37,7 @@ pub(crate) fn step_in(
 ) -> Result<Step, Misfit>
     requires queues { length queues.now ≤ 64 }
     requires before { length before.now < 4096 }
-    ensures exact { Reads (λ s. s) result (step_of nodes.now queues.now before.now (view value.now)) }
-    ensures valid { IfOk result (λ step. IsTrue (is_step nodes.now queues.now before.now step)) }
+    ensures { Reads (λ s. s) result (step_of nodes.now queues.now before.now (view value.now)) }
 {
     check_object(alloc, value)?;
     let word = member(alloc, value, "do")?;
@@ -58,8 +57,7 @@ fn step_by_word(
 ) -> Result<Step, Misfit>
     requires queues { length queues.now ≤ 64 }
     requires before { length before.now < 4096 }
-    ensures exact { Reads (λ s. s) result (step_as nodes.now queues.now before.now word.now (view value.now)) }
-    ensures valid { IfOk result (λ step. IsTrue (is_step nodes.now queues.now before.now step)) }
+    ensures { Reads (λ s. s) result (step_as nodes.now queues.now before.now word.now (view value.now)) }
 {
     match word {
         "submit" => submit_in(alloc, nodes, queues, value),
@@ -74,7 +72,7 @@ fn step_by_word(
 }
 
 /// A submit of a task to a queue.
-#[tactic(auto, unfolding(crate::specs::Steps::submit_of), using(crate::proofs::Submits::is_submit_valid))]
+#[tactic(auto, unfolding(crate::specs::Steps::submit_of))]
 fn submit_in(
     alloc: Global,
     nodes: &[ScriptNode],
@@ -82,8 +80,7 @@ fn submit_in(
     value: &Value,
 ) -> Result<Step, Misfit>
     requires { length queues.now ≤ 64 }
-    ensures exact { Reads (λ s. s) result (submit_of nodes.now queues.now (view value.now)) }
-    ensures valid { IfOk result (λ step. IsTrue (is_step nodes.now queues.now [] step)) }
+    ensures { Reads (λ s. s) result (submit_of nodes.now queues.now (view value.now)) }
 {
     check_members(alloc, value, &["do", "queue", "task", "timeout", "ack"])?;
     let named = member(alloc, value, "queue")?;
@@ -111,8 +108,7 @@ fn some_unless_zero(ms: u64) -> Option<u64>
 #[tactic(auto, unfolding(crate::specs::Steps::await_of))]
 fn await_in(alloc: Global, before: &[Step], value: &Value) -> Result<Step, Misfit>
     requires { length before.now < 4096 }
-    ensures exact { Reads (λ s. s) result (await_of before.now (view value.now)) }
-    ensures valid { IfOk result (λ step. IsTrue (is_step [] [] before.now step)) }
+    ensures { Reads (λ s. s) result (await_of before.now (view value.now)) }
 {
     check_members(alloc, value, &["do", "step", "for"])?;
     let step = member(alloc, value, "step")?;
@@ -125,7 +121,7 @@ fn await_in(alloc: Global, before: &[Step], value: &Value) -> Result<Step, Misfi
 /// The number of an earlier step.
 fn earlier_in(alloc: Global, before: &[Step], value: &Value) -> Result<u32, Misfit>
     requires { length before.now < 4096 }
-    ensures exact { Reads (λ n. n) result (earlier_of before.now (view value.now)) }
+    ensures { Reads (λ n. n) result (earlier_of before.now (view value.now)) }
 {
     let number = whole_in(alloc, value)?;
     if number < before.len() as u64 {
@@ -158,8 +154,7 @@ fn goal_of_word(word: &str) -> Option<Goal>
 
 /// An await of a step that has to be of the kind that the goal needs.
 fn check_await(alloc: Global, before: &[Step], step: u32, goal: Goal) -> Result<Step, Misfit>
-    ensures exact { Reads (λ s. s) result (fit_await before.now step goal) }
-    ensures valid { IfOk result (λ step. IsTrue (is_step [] [] before.now step)) }
+    ensures { Reads (λ s. s) result (fit_await before.now step goal) }
 {
     if does_suit(goal, before.get(step as usize)) {
         Ok(Step::Await { step, goal })
@@ -184,8 +179,7 @@ fn does_suit(goal: Goal, step: Option<&Step>) -> bool
 /// A watch of a node's applied states.
 #[tactic(auto, unfolding(crate::specs::Steps::watch_of))]
 fn watch_in(alloc: Global, nodes: &[ScriptNode], value: &Value) -> Result<Step, Misfit>
-    ensures exact { Reads (λ s. s) result (watch_of nodes.now (view value.now)) }
-    ensures valid { IfOk result (λ step. IsTrue (is_step nodes.now [] [] step)) }
+    ensures { Reads (λ s. s) result (watch_of nodes.now (view value.now)) }
 {
     check_members(alloc, value, &["do", "node", "pred", "then", "timeout"])?;
     let named = member(alloc, value, "node")?;
@@ -205,8 +199,7 @@ fn watch_in(alloc: Global, nodes: &[ScriptNode], value: &Value) -> Result<Step, 
 #[tactic(auto, unfolding(crate::specs::Steps::next_watch_of))]
 fn next_in(alloc: Global, before: &[Step], value: &Value) -> Result<Step, Misfit>
     requires { length before.now < 4096 }
-    ensures exact { Reads (λ s. s) result (next_watch_of before.now (view value.now)) }
-    ensures valid { IfOk result (λ step. IsTrue (is_step [] [] before.now step)) }
+    ensures { Reads (λ s. s) result (next_watch_of before.now (view value.now)) }
 {
     check_members(alloc, value, &["do", "watch", "pred", "then", "timeout"])?;
     let watch = member(alloc, value, "watch")?;
@@ -225,8 +218,7 @@ fn next_in(alloc: Global, before: &[Step], value: &Value) -> Result<Step, Misfit
 /// The number of an earlier watch.
 fn watched_in(alloc: Global, before: &[Step], value: &Value) -> Result<u32, Misfit>
     requires { length before.now < 4096 }
-    ensures exact { Reads (λ n. n) result (watched_of before.now (view value.now)) }
-    ensures valid { IfOk result (λ n. IsTrue (is_goal Watch (slice_get before.now n))) }
+    ensures { Reads (λ n. n) result (watched_of before.now (view value.now)) }
 {
     let number = whole_in(alloc, value)?;
     let step = before.get(number as usize);
@@ -239,8 +231,7 @@ fn watched_in(alloc: Global, before: &[Step], value: &Value) -> Result<u32, Misf
 }
 
 fn pred_at(alloc: Global, value: &Value) -> Result<Pred, Misfit>
-    ensures exact { Reads (λ p. p) result (required (codes "pred") (pred_of 16) (view value.now)) }
-    ensures valid { IfOk result (λ pred. IsTrue (is_pred pred)) }
+    ensures { Reads (λ p. p) result (required (codes "pred") (pred_of 16) (view value.now)) }
 {
     in_member(
         alloc,
@@ -251,9 +242,7 @@ fn pred_at(alloc: Global, value: &Value) -> Result<Pred, Misfit>
 
 /// The predicates that are to be met after the first, where there are any.
 fn thens_or_none(alloc: Global, value: &Value) -> Result<Items<Pred>, Misfit>
-    ensures exact { Reads (λ ps. ps) result (optional (codes "then") [] thens_of (view value.now)) }
-    ensures limit { IfOk result (λ ps. length ps ≤ 8) }
-    ensures valid { IfOk result (λ ps. IsTrue (list_all is_pred ps)) }
+    ensures { Reads (λ ps. ps) result (optional (codes "then") [] thens_of (view value.now)) }
 {
     match value.get("then") {
         None => Ok(Items::new(alloc)),
@@ -262,8 +251,7 @@ fn thens_or_none(alloc: Global, value: &Value) -> Result<Items<Pred>, Misfit>
 }
 
 fn positive_at(alloc: Global, value: &Value, key: &str) -> Result<u64, Misfit>
-    ensures exact { Reads (λ n. n) result (required key.now positive_of (view value.now)) }
-    ensures valid { IfOk result (λ n. IsTrue (is_positive_time n)) }
+    ensures { Reads (λ n. n) result (required key.now positive_of (view value.now)) }
 {
     in_member(alloc, key, positive_in(alloc, member(alloc, value, key)?))
 }
@@ -271,8 +259,7 @@ fn positive_at(alloc: Global, value: &Value, key: &str) -> Result<u64, Misfit>
 /// A look into a node's applied state.
 #[tactic(auto, unfolding(crate::specs::Steps::read_of))]
 fn read_in(alloc: Global, nodes: &[ScriptNode], value: &Value) -> Result<Step, Misfit>
-    ensures exact { Reads (λ s. s) result (read_of nodes.now (view value.now)) }
-    ensures valid { IfOk result (λ step. IsTrue (is_step nodes.now [] [] step)) }
+    ensures { Reads (λ s. s) result (read_of nodes.now (view value.now)) }
 {
     check_members(alloc, value, &["do", "node", "index", "alias", "setting"])?;
     let named = member(alloc, value, "node")?;
@@ -315,8 +302,7 @@ fn look_in(alloc: Global, value: &Value) -> Result<Look, Misfit>
 
 #[tactic(auto, unfolding(crate::specs::Steps::sleep_of))]
 fn sleep_in(alloc: Global, value: &Value) -> Result<Step, Misfit>
-    ensures exact { Reads (λ s. s) result (sleep_of (view value.now)) }
-    ensures valid { IfOk result (λ step. IsTrue (is_step [] [] [] step)) }
+    ensures { Reads (λ s. s) result (sleep_of (view value.now)) }
 {
     check_members(alloc, value, &["do", "ms"])?;
     let ms = member(alloc, value, "ms")?;
@@ -326,8 +312,7 @@ fn sleep_in(alloc: Global, value: &Value) -> Result<Step, Misfit>
 
 #[tactic(auto, unfolding(crate::specs::Steps::close_of))]
 fn close_in(alloc: Global, value: &Value) -> Result<Step, Misfit>
-    ensures exact { Reads (λ s. s) result (close_of (view value.now)) }
-    ensures valid { IfOk result (λ step. IsTrue (is_step [] [] [] step)) }
+    ensures { Reads (λ s. s) result (close_of (view value.now)) }
 {
     check_members(alloc, value, &["do"])?;
     Ok(Step::Close)

@@ -24,8 +24,7 @@ pub(crate) fn task_in(
     form: TaskForm,
     value: &Value,
 ) -> Result<Task, Misfit>
-    ensures exact { Reads (λ t. t) result (task_of nodes.now form (view value.now)) }
-    ensures valid { IfOk result (λ task. IsTrue (is_task_of nodes.now form task)) }
+    ensures { Reads (λ t. t) result (task_of nodes.now form (view value.now)) }
 {
     match form {
         TaskForm::CreateIndex => creation_in(alloc, value),
@@ -41,8 +40,7 @@ pub(crate) fn task_in(
 
 #[tactic(auto, unfolding(crate::specs::Tasks::creation_of))]
 fn creation_in(alloc: Global, value: &Value) -> Result<Task, Misfit>
-    ensures exact { Reads (λ t. t) result (creation_of (view value.now)) }
-    ensures valid { IfOk result (λ task. IsTrue (is_task_of [] form.CreateIndex task)) }
+    ensures { Reads (λ t. t) result (creation_of (view value.now)) }
 {
     check_members(alloc, value, &["index", "shards", "replicas"])?;
     let index = text_at(alloc, value, "index")?;
@@ -57,8 +55,7 @@ fn creation_in(alloc: Global, value: &Value) -> Result<Task, Misfit>
 
 #[tactic(auto, unfolding(crate::specs::Tasks::deletion_of))]
 fn deletion_in(alloc: Global, value: &Value) -> Result<Task, Misfit>
-    ensures exact { Reads (λ t. t) result (deletion_of (view value.now)) }
-    ensures valid { IfOk result (λ task. IsTrue (is_task_of [] form.DeleteIndex task)) }
+    ensures { Reads (λ t. t) result (deletion_of (view value.now)) }
 {
     check_members(alloc, value, &["index"])?;
     let index = text_at(alloc, value, "index")?;
@@ -67,8 +64,7 @@ fn deletion_in(alloc: Global, value: &Value) -> Result<Task, Misfit>
 
 #[tactic(auto, unfolding(crate::specs::Tasks::index_setting_of))]
 fn index_setting_in(alloc: Global, value: &Value) -> Result<Task, Misfit>
-    ensures exact { Reads (λ t. t) result (index_setting_of (view value.now)) }
-    ensures valid { IfOk result (λ task. IsTrue (is_task_of [] form.IndexSetting task)) }
+    ensures { Reads (λ t. t) result (index_setting_of (view value.now)) }
 {
     check_members(alloc, value, &["index", "key", "value"])?;
     let index = text_at(alloc, value, "index")?;
@@ -83,8 +79,7 @@ fn index_setting_in(alloc: Global, value: &Value) -> Result<Task, Misfit>
 
 #[tactic(auto, unfolding(crate::specs::Tasks::opening_of))]
 fn opening_in(alloc: Global, value: &Value) -> Result<Task, Misfit>
-    ensures exact { Reads (λ t. t) result (opening_of (view value.now)) }
-    ensures valid { IfOk result (λ task. IsTrue (is_task_of [] form.OpenClose task)) }
+    ensures { Reads (λ t. t) result (opening_of (view value.now)) }
 {
     check_members(alloc, value, &["index", "open"])?;
     let index = text_at(alloc, value, "index")?;
@@ -95,8 +90,7 @@ fn opening_in(alloc: Global, value: &Value) -> Result<Task, Misfit>
 
 #[tactic(auto, unfolding(crate::specs::Tasks::alias_task_of))]
 fn alias_task_in(alloc: Global, value: &Value) -> Result<Task, Misfit>
-    ensures exact { Reads (λ t. t) result (alias_task_of (view value.now)) }
-    ensures valid { IfOk result (λ task. IsTrue (is_task_of [] form.Alias task)) }
+    ensures { Reads (λ t. t) result (alias_task_of (view value.now)) }
 {
     check_members(alloc, value, &["index", "alias", "action"])?;
     let index = text_at(alloc, value, "index")?;
@@ -129,8 +123,7 @@ fn addition_of_word(word: &str) -> Option<bool>
 
 #[tactic(auto, unfolding(crate::specs::Tasks::cluster_setting_of))]
 fn cluster_setting_in(alloc: Global, value: &Value) -> Result<Task, Misfit>
-    ensures exact { Reads (λ t. t) result (cluster_setting_of (view value.now)) }
-    ensures valid { IfOk result (λ task. IsTrue (is_task_of [] form.ClusterSetting task)) }
+    ensures { Reads (λ t. t) result (cluster_setting_of (view value.now)) }
 {
     check_members(alloc, value, &["key", "value"])?;
     let key = text_at(alloc, value, "key")?;
@@ -157,8 +150,7 @@ fn setting_value_in(alloc: Global, value: &Value) -> Result<Option<Text>, Misfit
 
 #[tactic(auto, unfolding(crate::specs::Tasks::node_task_of))]
 fn node_task_in(alloc: Global, nodes: &[ScriptNode], value: &Value) -> Result<Task, Misfit>
-    ensures exact { Reads (λ t. t) result (node_task_of nodes.now (view value.now)) }
-    ensures valid { IfOk result (λ task. IsTrue (is_task_of nodes.now form.Node task)) }
+    ensures { Reads (λ t. t) result (node_task_of nodes.now (view value.now)) }
 {
     check_members(alloc, value, &["node", "action"])?;
     let named = member(alloc, value, "node")?;
@@ -208,8 +200,7 @@ fn joining_of_word(word: &str) -> Option<bool>
 
 #[tactic(auto, unfolding(crate::specs::Tasks::reelection_of))]
 fn reelection_in(alloc: Global, value: &Value) -> Result<Task, Misfit>
-    ensures exact { Reads (λ t. t) result (reelection_of (view value.now)) }
-    ensures valid { IfOk result (λ task. IsTrue (is_task_of [] form.Reelect task)) }
+    ensures { Reads (λ t. t) result (reelection_of (view value.now)) }
 {
     check_members(alloc, value, &[])?;
     Ok(Task::Reelect)

@@ -24,9 +24,7 @@ pub(crate) fn schedule_in(
     clients: usize,
     value: &Value,
 ) -> Result<Items<ScriptTurn>, Misfit>
-    ensures exact { Reads (λ t. t) result (schedule_of nodes.now clients (view value.now)) }
-    ensures limit { IfOk result (λ turns. length turns ≤ 65536) }
-    ensures valid { IfOk result (λ turns. IsTrue (list_all (is_turn nodes.now clients) turns)) }
+    ensures { Reads (λ t. t) result (schedule_of nodes.now clients (view value.now)) }
 {
     let values = values_up_to(alloc, value, 65536, LimitName::Schedule)?;
     read_each(alloc, &TurnReader { nodes, clients }, values)
@@ -44,11 +42,7 @@ impl<'a> ListReader for TurnReader<'a> {
 
     ghost reads = { λ r. next_turn r.nodes.now r.clients };
 
-    ghost holds = { λ r turns. IsTrue (list_all (is_turn r.nodes.now r.clients) turns) };
-
     ghost most = { λ _. 65536 };
-
-    ghost begins = { λ _. refl };
 
     fn read_next(
         &self,
@@ -67,8 +61,7 @@ fn turn_in_value(
     clients: usize,
     value: &Value,
 ) -> Result<ScriptTurn, Misfit>
-    ensures exact { Reads (λ t. t) result (turn_of nodes.now clients (view value.now)) }
-    ensures valid { IfOk result (λ turn. IsTrue (is_turn nodes.now clients turn)) }
+    ensures { Reads (λ t. t) result (turn_of nodes.now clients (view value.now)) }
 {
     let text = text_in(alloc, value)?;
     turn_of_text(alloc, nodes, clients, text.as_bytes())
@@ -81,8 +74,7 @@ fn turn_of_text(
     clients: usize,
     text: &[u8],
 ) -> Result<ScriptTurn, Misfit>
-    ensures exact { Reads (λ t. t) result (turn_in nodes.now clients text.now) }
-    ensures valid { IfOk result (λ turn. IsTrue (is_turn nodes.now clients turn)) }
+    ensures { Reads (λ t. t) result (turn_in nodes.now clients text.now) }
 {
     match text.split_first() {
         None => Err(against(alloc, Rule::Value)),
@@ -102,8 +94,7 @@ fn turn_of_text(
 
 /// The master's turn, where nothing follows.
 fn master_turn_of(alloc: Global, rest: &[u8]) -> Result<ScriptTurn, Misfit>
-    ensures exact { Reads (λ t. t) result (master_turn rest.now) }
-    ensures valid { IfOk result (λ turn. IsTrue (is_turn [] 0 turn)) }
+    ensures { Reads (λ t. t) result (master_turn rest.now) }
 {
     if rest.is_empty() {
         Ok(ScriptTurn::Master)
@@ -114,8 +105,7 @@ fn master_turn_of(alloc: Global, rest: &[u8]) -> Result<ScriptTurn, Misfit>
 
 /// The turn of the client of a number.
 fn client_turn_of(alloc: Global, clients: usize, digits: &[u8]) -> Result<ScriptTurn, Misfit>
-    ensures exact { Reads (λ t. t) result (client_turn clients digits.now) }
-    ensures valid { IfOk result (λ turn. IsTrue (is_turn [] clients turn)) }
+    ensures { Reads (λ t. t) result (client_turn clients digits.now) }
 {
     if !is_number(digits) {
         return Err(against(alloc, Rule::Value));
@@ -174,8 +164,7 @@ fn one_more(number: u32, digit: u8) -> u32
 
 /// The turn of the node of a name, which follows a colon.
 fn node_turn_of(alloc: Global, nodes: &[ScriptNode], rest: &[u8]) -> Result<ScriptTurn, Misfit>
-    ensures exact { Reads (λ t. t) result (named_turn nodes.now rest.now) }
-    ensures valid { IfOk result (λ turn. IsTrue (is_turn nodes.now 0 turn)) }
+    ensures { Reads (λ t. t) result (named_turn nodes.now rest.now) }
 {
     match rest.split_first() {
         None => Err(against(alloc, Rule::Value)),
@@ -188,10 +177,8 @@ fn node_turn_of(alloc: Global, nodes: &[ScriptNode], rest: &[u8]) -> Result<Scri
     }
 }
 
-#[tactic(auto, using(crate::proofs::Names::is_node_found))]
 fn node_turn_by_name(alloc: Global, nodes: &[ScriptNode], name: &[u8]) -> Result<ScriptTurn, Misfit>
-    ensures exact { Reads (λ t. t) result (node_turn (find_node nodes.now name.now)) }
-    ensures valid { IfOk result (λ turn. IsTrue (is_turn nodes.now 0 turn)) }
+    ensures { Reads (λ t. t) result (node_turn (find_node nodes.now name.now)) }
 {
     match find(nodes, name) {
         None => Err(against(alloc, Rule::Reference)),

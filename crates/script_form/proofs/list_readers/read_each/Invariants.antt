@@ -9,5 +9,4 @@ abbrev pub invariant-loop-value : goal.invariant-loop-value
 invariant-loop-value g l = record {
   going : each (g.R.ListReader.reads l.reader) l.items (map view (drop l.value-index l.values)) ≡ each (g.R.ListReader.reads l.reader) [] (map view l.values);
   count : length l.items ≡ l.value-index;
-  valid : g.R.ListReader.holds l.reader l.items;
 }

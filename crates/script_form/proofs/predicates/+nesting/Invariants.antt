@@ -1,7 +1,6 @@
-use Rattle.std.proofs.Common.{◌≡◌, ◌≤◌, ◌*◌, ◌+◌, drop, length, []}
+use Rattle.std.proofs.Common.{◌≡◌, ◌*◌, ◌+◌, drop, []}
 use Rattle.std.specs.Prelude.{map}
 use Rattle.serde_json.specs.View.{view}
-use Rattle.scripts.specs.ValidSteps.{deepest, depth_of}
 use Rattle.script_form.specs.Predicates.{pred_of, preds_by}
 use Rattle.script_form.proofs.predicates.+nesting.Given as goal
 
@@ -19,8 +18,4 @@ decreases-next_pred_in l = l.left * 4 + 1
 
 -- what was read so far, and then what is left, is all
 abbrev pub invariant-preds_in-loop-value : goal.invariant-preds_in-loop-value
-invariant-preds_in-loop-value l = record {
-  going : preds_by (pred_of l.left) l.preds (map view (drop l.value-index l.values)) ≡ preds_by (pred_of l.left) [] (map view l.values);
-  depth : deepest (map depth_of l.preds) ≤ l.left;
-  count : length l.preds ≡ l.value-index;
-}
+invariant-preds_in-loop-value l = preds_by (pred_of l.left) l.preds (map view (drop l.value-index l.values)) ≡ preds_by (pred_of l.left) [] (map view l.values)
