@@ -22,7 +22,7 @@ use Rattle.script_form.specs.declared.limits.LimitName.TheVariants.{Clients, Fau
 use Rattle.script_form.specs.declared.misfits.Misfit.{Misfit}
 use Rattle.script_form.specs.declared.refusals.ScriptRefusal.{ScriptRefusal}
 use Rattle.script_form.specs.declared.rules.Rule.TheVariants.{Close, Master, NotBuilt, Reference, Twice, Version}
-use Rattle.script_form.specs.Clients.{AreClients, AreSteps, clients_of, do_close, fit_step, next_client, next_step, starts_once, steps_of}
+use Rattle.script_form.specs.Clients.{AreClients, AreSteps, clients_of, do_close, fit_step, next_client, step_after, starts_once, steps_of}
 use Rattle.script_form.specs.Faults.{AreFaults, fault_named, fault_of, faults_of, fit_fault, fit_follower, follower_of, is_same_place, next_fault}
 use Rattle.script_form.specs.Misfits.{◌>>=◌, bad, over}
 use Rattle.script_form.specs.Naming.{AreNamed}
@@ -31,7 +31,7 @@ use Rattle.script_form.specs.Parts.{check_members, data_of, each, name_of, optio
 use Rattle.script_form.specs.Queues.{queue_name, queues_of}
 use Rattle.script_form.specs.Reading.{AreParts, check_built, check_work, is_workable, parts_of, script_members, script_of, script_of_data, script_or_refusal, version_of, whole_script}
 use Rattle.script_form.specs.Steps.{step_of}
-use Rattle.script_form.specs.Turns.{client_turn, is_decimal, master_turn, named_turn, next_turn, node_turn, number_of, schedule_of, turn_in, turn_of}
+use Rattle.script_form.specs.Turns.{turn_of_client, is_decimal, turn_of_master, named_turn, next_turn, node_turn, number_of, schedule_of, turn_in, turn_of}
 use Rattle.script_form.proofs.Closing.{clients_push, steps_push}
 use Rattle.script_form.proofs.Names.{is_node_found}
 use Rattle.script_form.proofs.Places.{faults_push}
@@ -41,9 +41,9 @@ use Rattle.script_form.proofs.Valid.{script_is_valid}
 
 -- ---- clients
 
-next_step_valid : (nodes : List ScriptNode) (queues : List QueueSpec) (closed : Bool) (before : List Step) (d : Data) → AreSteps nodes queues closed before
-    → IfOk (next_step nodes queues closed before d) (λ s. AreSteps nodes queues closed (before ++ s ∷ []))
-next_step_valid nodes queues closed before d all =
+step_after_valid : (nodes : List ScriptNode) (queues : List QueueSpec) (closed : Bool) (before : List Step) (d : Data) → AreSteps nodes queues closed before
+    → IfOk (step_after nodes queues closed before d) (λ s. AreSteps nodes queues closed (before ++ s ∷ []))
+step_after_valid nodes queues closed before d all =
     if_then (λ s. is_step nodes queues before s ≡ true) _ (step_of nodes queues before d) (fit_step (closed || list_any is_close before)) (step_valid nodes queues before d)
     (λ s valid. if_untested _ (is_close s && (closed || list_any is_close before)) s (bad Close) tt (λ once. steps_push nodes queues closed before s all valid once))
 
@@ -53,9 +53,9 @@ ShortSteps nodes queues closed steps = AreSteps nodes queues closed steps × (le
 steps_valid : (nodes : List ScriptNode) (queues : List QueueSpec) (closed : Bool) (d : Data) → IfOk (steps_of nodes queues closed d) (ShortSteps nodes queues closed)
 steps_valid nodes queues closed d =
     if_then (λ ds. length ds ≤ 4096) _ (short_list 4096 Steps d) _ (if_short 4096 Steps d)
-    (λ ds few. if_both (λ steps. length steps ≡ length ds) (AreSteps nodes queues closed) _ (each (next_step nodes queues closed) [] ds)
-    (λ steps count all. (all, omega (arith, count, few))) (list_counts (next_step nodes queues closed) ds)
-    (each_holds (AreSteps nodes queues closed) (next_step nodes queues closed) (next_step_valid nodes queues closed) [] ds (record { valid = refl; once = starts_once closed })))
+    (λ ds few. if_both (λ steps. length steps ≡ length ds) (AreSteps nodes queues closed) _ (each (step_after nodes queues closed) [] ds)
+    (λ steps count all. (all, omega (arith, count, few))) (list_counts (step_after nodes queues closed) ds)
+    (each_holds (AreSteps nodes queues closed) (step_after nodes queues closed) (step_after_valid nodes queues closed) [] ds (record { valid = refl; once = starts_once closed })))
 
 next_client_valid : (nodes : List ScriptNode) (queues : List QueueSpec) (before : List (List Step)) (d : Data) → AreClients nodes queues before
     → IfOk (next_client nodes queues before d) (λ steps. AreClients nodes queues (before ++ steps ∷ []))
@@ -111,8 +111,8 @@ faults_valid nodes d =
 
 -- ---- the schedule
 
-client_turn_valid : (nodes : List ScriptNode) (count : ℕ) (digits : List ℕ) → IfOk (client_turn count digits) (λ t. is_turn nodes count t ≡ true)
-client_turn_valid nodes count digits =
+turn_of_client_valid : (nodes : List ScriptNode) (count : ℕ) (digits : List ℕ) → IfOk (turn_of_client count digits) (λ t. is_turn nodes count t ≡ true)
+turn_of_client_valid nodes count digits =
     if_either _ (is_decimal digits) _ _ (if_tested _ (nat_lt (number_of digits) count) (turn.Client (number_of digits)) (bad Reference) (λ less. less) tt) tt
 
 node_turn_valid : (nodes : List ScriptNode) (count : ℕ) (name : List ℕ) (found : Option ScriptNode) → find_node nodes name ≡ found → IfOk (node_turn found) (λ t. is_turn nodes count t ≡ true)
@@ -123,15 +123,15 @@ named_turn_valid : (nodes : List ScriptNode) (count : ℕ) (rest : List ℕ) →
 named_turn_valid nodes count [] = tt
 named_turn_valid nodes count (b ∷ name) = if_either _ (b == 0x3A) _ _ (node_turn_valid nodes count name (find_node nodes name) refl) tt
 
-master_turn_valid : (nodes : List ScriptNode) (count : ℕ) (rest : List ℕ) → IfOk (master_turn rest) (λ t. is_turn nodes count t ≡ true)
-master_turn_valid nodes count [] = refl
-master_turn_valid nodes count (_ ∷ _) = tt
+turn_of_master_valid : (nodes : List ScriptNode) (count : ℕ) (rest : List ℕ) → IfOk (turn_of_master rest) (λ t. is_turn nodes count t ≡ true)
+turn_of_master_valid nodes count [] = refl
+turn_of_master_valid nodes count (_ ∷ _) = tt
 
 turn_by : (nodes : List ScriptNode) (count : ℕ) (text : List ℕ) → IfOk (turn_in nodes count text) (λ t. is_turn nodes count t ≡ true)
 turn_by nodes count [] = tt
 turn_by nodes count (b ∷ rest) =
-    if_either _ (b == 0x6D) _ _ (master_turn_valid nodes count rest)
-    (if_either _ (b == 0x63) _ _ (client_turn_valid nodes count rest)
+    if_either _ (b == 0x6D) _ _ (turn_of_master_valid nodes count rest)
+    (if_either _ (b == 0x63) _ _ (turn_of_client_valid nodes count rest)
     (if_either _ (b == 0x6E) _ _ (named_turn_valid nodes count rest) tt))
 
 turns_push : (nodes : List ScriptNode) (count : ℕ) (before : List ScriptTurn) (t : ScriptTurn) → list_all (is_turn nodes count) before ≡ true → is_turn nodes count t ≡ true

@@ -22,7 +22,7 @@ use Rattle.script_form.specs.Misfits.{◌>>=◌, bad, if_so, some_or, within, at
 use Rattle.script_form.specs.Naming.{AreNamed}
 use Rattle.script_form.specs.Nodes.{AreLed, AreNodes, find_node, fit_node, next_node, node_named, node_of, nodes_of, some_nodes}
 use Rattle.script_form.specs.Parts.{check_members, each, if_there, member_or, name_of, optional, positive_of, required, short_list, text_of, time_of, whole_of, word_of}
-use Rattle.script_form.specs.Queues.{find_queue, fit_queue, kind_at, next_queue, queue_name, queue_named, queue_of, queues_of}
+use Rattle.script_form.specs.Queues.{find_queue, fit_queue, kind_at, queue_after, queue_name, queue_named, queue_of, queues_of}
 use Rattle.script_form.specs.Tasks.{alias_task_of, cluster_setting_of, creation_of, deletion_of, index_setting_of, joining_named, node_task, node_task_of, opening_of, reelection_of, task_of}
 use Rattle.script_form.proofs.Names.{is_node_found, is_node_so_found, led_nodes, led_push, names_push}
 
@@ -167,17 +167,17 @@ pub queue_valid : (d : Data) → IfOk (queue_of d) (λ queue. is_name queue.name
 unfolding queue_of
 queue_valid d = search (rules, if_then, if_any, if_required, name_valid)
 
-next_queue_valid : (before : List QueueSpec) (d : Data) → AreNamed queue_name before → IfOk (next_queue before d) (λ q. AreNamed queue_name (before ++ q ∷ []))
-next_queue_valid before d all =
+queue_after_valid : (before : List QueueSpec) (d : Data) → AreNamed queue_name before → IfOk (queue_after before d) (λ q. AreNamed queue_name (before ++ q ∷ []))
+queue_after_valid before d all =
     if_then (λ q. is_name q.name ≡ true) _ (queue_of d) (fit_queue before) (queue_valid d)
     (λ queue named. if_untested _ (list_any (λ q. bytes_eq queue.name q.name) before) queue (within (at_member (codes "name")) (bad Twice)) tt
     (λ e. names_push queue_name before queue all (record { named = named; apart = e })))
 
 pub queues_valid : (d : Data) → IfOk (queues_of d) (λ queues. AreNamed queue_name queues × (length queues ≤ 64))
 queues_valid d =
-    if_then (λ ds. length ds ≤ 64) _ (short_list 64 Queues d) (each next_queue []) (if_short 64 Queues d)
-    (λ ds few. if_both (λ queues. length queues ≡ length ds) (AreNamed queue_name) _ (each next_queue [] ds) (λ queues count all. (all, omega (arith, count, few)))
-    (list_counts next_queue ds) (each_holds (AreNamed queue_name) next_queue next_queue_valid [] ds (record { named = refl; distinct = refl })))
+    if_then (λ ds. length ds ≤ 64) _ (short_list 64 Queues d) (each queue_after []) (if_short 64 Queues d)
+    (λ ds few. if_both (λ queues. length queues ≡ length ds) (AreNamed queue_name) _ (each queue_after [] ds) (λ queues count all. (all, omega (arith, count, few)))
+    (list_counts queue_after ds) (each_holds (AreNamed queue_name) queue_after queue_after_valid [] ds (record { named = refl; distinct = refl })))
 
 place_after : {A : Type 0} (before : List A) (a : A) (rest : List A) → slice_get (before ++ a ∷ rest) (length before) ≡ Some a
 place_after [] a rest = refl

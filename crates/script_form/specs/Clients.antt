@@ -21,11 +21,11 @@ abbrev pub fit_step : Bool → Step → Result Step Misfit
 fit_step closed step = if is_close step && closed then bad Close else Ok step
 
 -- the next step of a client, where `closed` says that an earlier client closes
-abbrev pub next_step : List ScriptNode → List QueueSpec → Bool → List Step → Data → Result Step Misfit
-next_step nodes queues closed before d = step_of nodes queues before d >>= fit_step (closed || list_any is_close before)
+abbrev pub step_after : List ScriptNode → List QueueSpec → Bool → List Step → Data → Result Step Misfit
+step_after nodes queues closed before d = step_of nodes queues before d >>= fit_step (closed || list_any is_close before)
 
 abbrev pub steps_of : List ScriptNode → List QueueSpec → Bool → Data → Result (List Step) Misfit
-steps_of nodes queues closed d = short_list 4096 Steps d >>= each (next_step nodes queues closed) []
+steps_of nodes queues closed d = short_list 4096 Steps d >>= each (step_after nodes queues closed) []
 
 abbrev pub do_close : List (List Step) → Bool
 do_close clients = list_any (list_any is_close) clients

@@ -15,8 +15,8 @@ use Rattle.script_form.specs.Misfits.{◌>>=◌, bad, some_or, at_member, within
 use Rattle.script_form.specs.Parts.{check_members, required, optional, short_list, each, text_of, name_of, word_of, meaning_in}
 
 -- the executor of this name
-unfoldable pub kind_named : List ℕ → Option Kind
-kind_named = meaning_in (
+unfoldable pub executor_named : List ℕ → Option Kind
+executor_named = meaning_in (
     (codes "create_index", kind.CreateIndex) ∷
     (codes "delete_index", kind.DeleteIndex) ∷
     (codes "index_settings", kind.IndexSettings) ∷
@@ -44,7 +44,7 @@ unfoldable pub queue_of : Data → Result QueueSpec Misfit
 queue_of d =
     check_members (codes "name" ∷ codes "executor" ∷ codes "priority" ∷ []) d >>= λ _.
     required (codes "name") name_of d >>= λ name.
-    required (codes "executor") (word_of kind_named) d >>= λ executor.
+    required (codes "executor") (word_of executor_named) d >>= λ executor.
     optional (codes "priority") priority.Normal (word_of priority_named) d >>= λ level.
     Ok (record { name = name; executor = executor; priority = level })
 
@@ -55,11 +55,11 @@ is_queue_name queues name = list_any (λ q. bytes_eq name q.name) queues
 abbrev pub fit_queue : List QueueSpec → QueueSpec → Result QueueSpec Misfit
 fit_queue before queue = if is_queue_name before queue.name then within (at_member (codes "name")) (bad Twice) else Ok queue
 
-abbrev pub next_queue : List QueueSpec → Data → Result QueueSpec Misfit
-next_queue before d = queue_of d >>= fit_queue before
+abbrev pub queue_after : List QueueSpec → Data → Result QueueSpec Misfit
+queue_after before d = queue_of d >>= fit_queue before
 
 abbrev pub queues_of : Data → Result (List QueueSpec) Misfit
-queues_of d = short_list 64 Queues d >>= each next_queue []
+queues_of d = short_list 64 Queues d >>= each queue_after []
 
 -- ---- the queue that a text names: its number, counted on from `n`, and its executor
 

@@ -31,8 +31,8 @@ abbrev pub number_of : List ℕ → ℕ
 number_of digits = fold more 0 digits
 
 -- after `c`, where there are `count` clients
-abbrev pub client_turn : ℕ → List ℕ → Result ScriptTurn Misfit
-client_turn count digits =
+abbrev pub turn_of_client : ℕ → List ℕ → Result ScriptTurn Misfit
+turn_of_client count digits =
     if is_decimal digits then (if nat_lt (number_of digits) count then Ok (turn.Client (number_of digits)) else bad Reference) else bad Value
 
 abbrev pub node_turn : Option ScriptNode → Result ScriptTurn Misfit
@@ -44,15 +44,15 @@ abbrev pub named_turn : List ScriptNode → List ℕ → Result ScriptTurn Misfi
 named_turn nodes [] = bad Value
 named_turn nodes (b ∷ name) = if b == 0x3A then node_turn (find_node nodes name) else bad Value
 
-abbrev pub master_turn : List ℕ → Result ScriptTurn Misfit
-master_turn [] = Ok turn.Master
-master_turn (_ ∷ _) = bad Value
+abbrev pub turn_of_master : List ℕ → Result ScriptTurn Misfit
+turn_of_master [] = Ok turn.Master
+turn_of_master (_ ∷ _) = bad Value
 
 abbrev pub turn_in : List ScriptNode → ℕ → List ℕ → Result ScriptTurn Misfit
 turn_in nodes count [] = bad Value
 turn_in nodes count (b ∷ rest) =
-    if b == 0x6D then master_turn rest else
-    (if b == 0x63 then client_turn count rest else
+    if b == 0x6D then turn_of_master rest else
+    (if b == 0x63 then turn_of_client count rest else
     (if b == 0x6E then named_turn nodes rest else bad Value))
 
 unfoldable pub turn_of : List ScriptNode → ℕ → Data → Result ScriptTurn Misfit

@@ -2,7 +2,7 @@ ghost use Rattle.std.specs.Prelude.{◌≡◌, ◌≤◌, ◌&&◌, ◌||◌, If
 ghost use Rattle.std.specs.List.{list_any};
 ghost use Rattle.serde_json.specs.View.{view};
 ghost use Rattle.scripts.specs.Scripts.{is_close};
-ghost use Rattle.script_form.specs.Clients.{AreClients, AreSteps, clients_of, do_close, fit_step, next_client, next_step, starts_once, steps_of};
+ghost use Rattle.script_form.specs.Clients.{AreClients, AreSteps, clients_of, do_close, fit_step, next_client, step_after, starts_once, steps_of};
 ghost use Rattle.script_form.specs.Misfits.{Reads};
 
 use crate::limits::LimitName;
@@ -93,7 +93,7 @@ struct StepReader<'a> {
 impl<'a> ListReader for StepReader<'a> {
     type Item = Step;
 
-    ghost reads = { λ r. next_step r.nodes.now r.queues.now r.closed };
+    ghost reads = { λ r. step_after r.nodes.now r.queues.now r.closed };
 
     ghost most = { λ _. 4096 };
 

@@ -4,7 +4,7 @@ ghost use Rattle.scripts.specs.Names.{is_name};
 ghost use Rattle.script_form.specs.Misfits.{Reads};
 ghost use Rattle.script_form.specs.Naming.{AreNamed, IsNewTo};
 ghost use Rattle.script_form.specs.Parts.{optional, word_of};
-ghost use Rattle.script_form.specs.Queues.{find_queue, fit_queue, is_queue_name, kind_at, kind_named, next_queue, priority_named, queue_name, queue_named, queue_of, queues_of};
+ghost use Rattle.script_form.specs.Queues.{find_queue, fit_queue, is_queue_name, kind_at, executor_named, queue_after, priority_named, queue_name, queue_named, queue_of, queues_of};
 ghost use Rattle.scripts.specs.declared.queues.Priority.TheVariants.{Normal};
 
 use crate::limits::LimitName;
@@ -34,7 +34,7 @@ struct QueueReader;
 impl ListReader for QueueReader {
     type Item = QueueSpec;
 
-    ghost reads = { λ _. next_queue };
+    ghost reads = { λ _. queue_after };
 
     ghost most = { λ _. 64 };
 
@@ -83,7 +83,7 @@ fn has_queue(queues: &[QueueSpec], name: &str) -> bool
 }
 
 fn kind_in(alloc: Global, value: &Value) -> Result<Kind, Misfit>
-    ensures { Reads (λ k. k) result (word_of kind_named (view value.now)) }
+    ensures { Reads (λ k. k) result (word_of executor_named (view value.now)) }
 {
     match kind_of_word(text_in(alloc, value)?) {
         None => Err(against(alloc, Rule::Value)),
@@ -91,9 +91,9 @@ fn kind_in(alloc: Global, value: &Value) -> Result<Kind, Misfit>
     }
 }
 
-#[tactic(auto, unfolding(crate::specs::Queues::kind_named))]
+#[tactic(auto, unfolding(crate::specs::Queues::executor_named))]
 fn kind_of_word(word: &str) -> Option<Kind>
-    ensures { result ≡ kind_named word.now }
+    ensures { result ≡ executor_named word.now }
 {
     match word {
         "create_index" => Some(Kind::CreateIndex),

@@ -4,7 +4,7 @@ ghost use Rattle.serde_json.specs.View.{view};
 ghost use Rattle.scripts.specs.Scripts.{is_turn};
 ghost use Rattle.script_form.specs.Misfits.{Reads};
 ghost use Rattle.script_form.specs.Nodes.{find_node};
-ghost use Rattle.script_form.specs.Turns.{client_turn, is_decimal, is_digit, master_turn, more, named_turn, next_turn, node_turn, number_of, schedule_of, turn_in, turn_of};
+ghost use Rattle.script_form.specs.Turns.{turn_of_client, is_decimal, is_digit, turn_of_master, more, named_turn, next_turn, node_turn, number_of, schedule_of, turn_in, turn_of};
 
 use crate::limits::LimitName;
 use crate::list_readers::{ListReader, read_each};
@@ -94,7 +94,7 @@ fn turn_of_text(
 
 /// The master's turn, where nothing follows.
 fn master_turn_of(alloc: Global, rest: &[u8]) -> Result<ScriptTurn, Misfit>
-    ensures { Reads (λ t. t) result (master_turn rest.now) }
+    ensures { Reads (λ t. t) result (turn_of_master rest.now) }
 {
     if rest.is_empty() {
         Ok(ScriptTurn::Master)
@@ -105,7 +105,7 @@ fn master_turn_of(alloc: Global, rest: &[u8]) -> Result<ScriptTurn, Misfit>
 
 /// The turn of the client of a number.
 fn client_turn_of(alloc: Global, clients: usize, digits: &[u8]) -> Result<ScriptTurn, Misfit>
-    ensures { Reads (λ t. t) result (client_turn clients digits.now) }
+    ensures { Reads (λ t. t) result (turn_of_client clients digits.now) }
 {
     if !is_number(digits) {
         return Err(against(alloc, Rule::Value));
