@@ -2,6 +2,8 @@
 #![tactic(auto)]
 
 mod answers;
+#[cfg(test)]
+mod command_rows;
 mod commands;
 mod exits;
 mod replays;

@@ -338,39 +338,3 @@ fn each_script_comes_to_what_the_table_says(rt: HostRuntime) -> Result<(), Fail>
     assert_eq!(rt; checked, 276);
     Ok(())
 }
-
-/// A script whose one client has this step so many times.
-fn repeated(alloc: Global, step: &str, count: u32) -> Result<String, Fail> {
-    let mut text = String::from_str(
-        alloc,
-        r#"{"version":1,"cluster":"c","nodes":[{"name":"a"}],"queues":[{"name":"q","executor":"create_index"}],"clients":[["#,
-    )?;
-    for number in 0..count {
-        if number > 0 {
-            text.push_str(",")?;
-        }
-        text.push_str(step)?;
-    }
-    text.push_str("]]}")?;
-    Ok(text)
-}
-
-#[test]
-fn lengths_are_limited_at_their_numbers(rt: HostRuntime) -> Result<(), Fail> {
-    let alloc = rt.alloc();
-    let submit = r#"{"do":"submit","queue":"q","task":{"index":"i"}}"#;
-    let sleep = r#"{"do":"sleep","ms":0}"#;
-    let cases = [
-        // 2,828 submits come to 7,997,584 for one node, and one more to 8,003,241
-        (submit, 2828, "accepted"),
-        (submit, 2829, "limit work"),
-        (sleep, 4096, "bad_shape $ not_built"),
-        (sleep, 4097, "limit steps"),
-    ];
-    for (step, count, expected) in cases {
-        let script = repeated(alloc, step, count)?;
-        let said = says(alloc, script.as_str())?;
-        assert_eq!(rt; said.as_str(), expected);
-    }
-    Ok(())
-}
