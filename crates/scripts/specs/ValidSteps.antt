@@ -1,6 +1,6 @@
 -- When a step is valid among the nodes and queues of its script, and after the steps of its client before it. All of it
 -- is this project's own.
-use Rattle.std.specs.Prelude.{ℕ, ◌+◌, Bool, true, false, ◌&&◌, List, [], ◌∷◌, ◌++◌, Some, None, Option, length, map, max, nat_le, bytes_eq, slice_get, is_some}
+use Rattle.std.specs.Prelude.{ℕ, ◌+◌, Bool, true, false, ◌&&◌, List, [], ◌∷◌, ◌++◌, Some, None, Option, length, max, nat_le, bytes_eq, slice_get, is_some}
 use Rattle.std.specs.List.{list_all, list_any}
 use Rattle.std.specs.Bool.{beq}
 use Rattle.meta_state.specs.declared.predicates.Pred.{Pred, fold-Pred}
