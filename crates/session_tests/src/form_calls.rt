@@ -1,7 +1,7 @@
 use crate::entry;
 use crate::whole_session::{
-    applied, batch, failed, good, idle, names, no_change, put_alias, put_id, put_index,
-    put_read, put_value,
+    applied, batch, failed, good, idle, names, no_change, put_alias, put_id, put_index, put_read,
+    put_value,
 };
 use meta_state::{ClusterState, Found, NodeInfo};
 use plain_data::{Items, OutOfMemory, Text};
