@@ -1,6 +1,6 @@
 -- The executors: which form of task each takes, which of them run only on a master in office, and which fail as a whole.
--- This is the one table of executors and their tasks, which the script's validity and its reading cite. That some run
--- only on a master in office is Elasticsearch's (`ClusterStateTaskExecutor.runOnlyOnMaster`); which ones is this project's own.
+-- This is the one table of executors and their tasks, and layers above cite it. That some run only on a master in office
+-- is Elasticsearch's (`ClusterStateTaskExecutor.runOnlyOnMaster`); which ones is this project's own.
 use Rattle.std.specs.Prelude.{Bool, true, false}
 use Rattle.executors.specs.declared.kinds.Kind.{Kind}
 use Rattle.executors.specs.declared.kinds.Kind.TheVariants as kind

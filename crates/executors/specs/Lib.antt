@@ -10,3 +10,4 @@ pub mod Refusals
 pub mod SettingTasks
 pub mod TaskForms
 pub mod TaskRuns
+pub mod Touching

@@ -1,4 +1,4 @@
--- The refusals of tasks: the word of a report for each, and its number. They are this project's own.
+-- The refusals of tasks: the word and the number of each. They are this project's own.
 use Rattle.std.specs.Prelude.{ℕ, List, codes}
 use Rattle.executors.specs.declared.refusals.TaskRefusal.{TaskRefusal}
 use Rattle.executors.specs.declared.refusals.TaskRefusal.TheVariants.{Exists, NotFound, InvalidName, FinalSetting, BadValue, AliasClash, NodeKnown, NodeUnknown, MasterMayNotLeave}

@@ -6,6 +6,7 @@ ghost use Rattle.executors.specs.declared.tasks.Task.{Task};
 ghost use Rattle.executors.specs.declared.contexts.TaskContext.{TaskContext};
 ghost use Rattle.executors.specs.declared.executions.Executed.{Executed};
 ghost use Rattle.executors.specs.Executions.{AreMarked, KeepsVersions, tasks_of};
+ghost use Rattle.executors.specs.Touching.{ChangesOnly, touched_by};
 
 use crate::contexts::{Mark, TaskContext};
 use crate::refusals::TaskRefusal;
@@ -51,7 +52,8 @@ pub trait Executor {
         ensures { result ≡ masters self.now };
 
     /// Completes each context once and answers the state that they leave, whose identifier, version and metadata
-    /// version are those of `initial`, with one mark for each context, in order. Want of memory leaves nothing.
+    /// version are those of `initial`, and which differs from it at the names of the tasks alone, with one mark for each
+    /// context, in order. Want of memory leaves nothing.
     fn execute(
         &self,
         alloc: Global,
@@ -62,5 +64,6 @@ pub trait Executor {
         requires accepted { IsTrue (list_all (takes self.now) (tasks_of contexts.items)) }
         ensures made { IfOk result (λ made. made ≡ makes self.now initial.now contexts.items) }
         ensures marks { IfOk result (AreMarked contexts.items) }
-        ensures versions { IfOk result (KeepsVersions initial.now) };
+        ensures versions { IfOk result (KeepsVersions initial.now) }
+        ensures touches { IfOk result (ChangesOnly (touched_by (tasks_of contexts.items)) initial.now) };
 }

@@ -14,6 +14,7 @@ mod setting_tasks;
 mod task_forms;
 mod task_runs;
 mod tasks;
+mod touching;
 
 pub use contexts::{Mark, TaskContext, Verdict, number};
 pub use executions::{Executed, Executor};
@@ -23,3 +24,4 @@ pub use refusals::TaskRefusal;
 pub use setting_tasks::is_setting_key;
 pub use task_forms::TaskForm;
 pub use tasks::Task;
+pub use touching::touched_by;

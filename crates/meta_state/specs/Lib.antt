@@ -6,4 +6,5 @@ pub mod Names
 pub mod Predicates
 pub mod States
 pub mod Tables
+pub mod Touches
 pub mod Versions

@@ -4,13 +4,14 @@ ghost use Rattle.std.specs.Ordering.{nat_cmp};
 ghost use Rattle.std.specs.List.Sorted.{IsStrictlySortedBy};
 ghost use Rattle.std.specs.Map.{keys_of};
 ghost use Rattle.std.specs.Cmp.Lexicographic.{slice_cmp};
+ghost use Rattle.plain_data.specs.Agreements.{AgreeOutside};
 ghost use Rattle.plain_data.specs.Pairs.{lookup, with, without, pairs_eq, pairs_per, pairs_equiv, pairs_decides};
 ghost use Rattle.meta_state.specs.Aliases.{has_alias, names_with};
 ghost use Rattle.meta_state.specs.Exact.{index_eq, index_equiv, index_per, index_decides};
 ghost use Rattle.meta_state.specs.Tables.{AgreeBut, aliases_at, has_names, all_entered, all_struck, entered, holders, relisted, retold, struck};
 
 use crate::index_metadata::IndexMetadata;
-use plain_data::{Exact, Items, Map, NameSet, OutOfMemory, Pairs, Text};
+use plain_data::{Exact, Items, Map, NameSet, OutOfMemory, Pairs, Text, is_same_among};
 use std::alloc::{AllocError, Global};
 use std::fmt;
 use std::marker::Model;
@@ -86,6 +87,15 @@ impl IndexTable {
         ensures { result ≡ self.now }
     {
         self.by_name.iter()
+    }
+
+    /// Whether two tables that agree outside of some names are equal, which costs a look-up in each at each of these
+    /// names.
+    pub fn is_same_among(&self, other: &IndexTable, names: &NameSet) -> bool
+        requires { AgreeOutside names.now self.now other.now }
+        ensures { result ≡ pairs_eq index_eq self.now other.now }
+    {
+        is_same_among(&self.by_name, &other.by_name, names)
     }
 
     /// Equal indices, which share all that these have. Its cost doesn't grow with them.

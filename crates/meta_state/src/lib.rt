@@ -11,6 +11,7 @@ mod looks;
 mod node_info;
 mod predicates;
 mod states_as_json;
+mod touches;
 mod versions;
 mod watch_id;
 
@@ -23,5 +24,6 @@ pub use looks::{Found, Look, lookup};
 pub use node_info::NodeInfo;
 pub use predicates::Pred;
 pub use states_as_json::to_json;
-pub use versions::{Next, next_state};
+pub use touches::Touched;
+pub use versions::{Next, next_state, next_state_among};
 pub use watch_id::WatchId;

@@ -1,3 +1,4 @@
+pub mod Agreements
 pub mod Depths
 pub mod Pairs
 pub mod Trees

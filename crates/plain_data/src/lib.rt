@@ -2,6 +2,7 @@
 //! the want of memory, and the law by which `==` decides equality.
 #![tactic(auto)]
 
+mod agreements;
 mod balancing;
 mod boxes;
 mod laws;
@@ -15,6 +16,7 @@ mod shares;
 mod texts;
 mod trees;
 
+pub use agreements::is_same_among;
 pub use boxes::Boxed;
 pub use laws::{Exact, is_same};
 pub use lists::Items;

@@ -87,9 +87,10 @@ impl<V> Map<V> {
     }
 
     /// How many pairs stand on the longest way down: so many a look-up and a change meet at most. It costs a walk
-    /// over all pairs, for tests, by which alone it is shown to stay small.
+    /// over all pairs, for tests, by which alone it is shown to stay near the least that it can be.
     pub fn depth(&self) -> usize
-        ensures { result ≤ length self.now }
+        ensures most { result ≤ length self.now }
+        ensures least { length self.now < 2 ^ result }
     {
         self.tree.depth()
     }

@@ -5,6 +5,7 @@ ghost use Rattle.std.specs.Cmp.Lexicographic.{slice_cmp};
 ghost use Rattle.std.specs.List.Sorted.{IsStrictlySortedBy};
 ghost use Rattle.std.specs.Map.{keys_of};
 ghost use Rattle.std.specs.Map.Iter.{TakesFirst};
+ghost use Rattle.plain_data.specs.Agreements.{with_all};
 ghost use Rattle.plain_data.specs.Pairs.{lookup, with, without, a_name};
 
 use crate::maps::Map;
@@ -76,6 +77,19 @@ impl NameSet {
         ensures err { OnErr result (self.new ≡ self.old) }
     {
         self.names.remove(name)
+    }
+
+    /// Adds the names of another set. Want of memory leaves the set as it was, and every copy stays as it was.
+    pub fn include(&mut self, other: &NameSet) -> Result<(), OutOfMemory>
+        ensures ok { OnOk result (self.new ≡ with_all other.now self.old) }
+        ensures err { OnErr result (self.new ≡ self.old) }
+    {
+        let mut names = self.names.copy()?;
+        for name in other.iter() {
+            names.set(name.copy()?, ())?;
+        }
+        self.names = names;
+        Ok(())
     }
 
     /// The names in byte order.

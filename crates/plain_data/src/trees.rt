@@ -93,7 +93,8 @@ impl<V> Tree<V> {
 
     /// How many nodes stand on the longest way down.
     pub(crate) fn depth(&self) -> usize
-        ensures { result ≤ length self.now }
+        ensures most { result ≤ length self.now }
+        ensures least { length self.now < 2 ^ result }
     {
         match self.node() {
             None => 0,

@@ -1,0 +1,35 @@
+ghost use Rattle.std.specs.Prelude.{◌≡◌, IfOk, OnOk};
+ghost use Rattle.executors.specs.Touching.{and_task, touched_by};
+
+use crate::tasks::Task;
+use meta_state::Touched;
+use plain_data::OutOfMemory;
+use std::alloc::Global;
+
+/// The names that tasks carry, at which alone they can change a state. Its cost grows with the tasks.
+#[tactic(auto, unfolding(crate::specs::Touching::touched_by))]
+pub fn touched_by(alloc: Global, tasks: &[Task]) -> Result<Touched, OutOfMemory>
+    ensures { IfOk result (λ made. made ≡ touched_by tasks.now) }
+{
+    let mut touched = Touched::none(alloc);
+    for task in tasks {
+        add_task(&mut touched, task)?;
+    }
+    Ok(touched)
+}
+
+fn add_task(touched: &mut Touched, task: &Task) -> Result<(), OutOfMemory>
+    ensures { OnOk result (touched.new ≡ and_task task.now touched.old) }
+{
+    match task {
+        Task::CreateIndex { index, .. }
+        | Task::DeleteIndex { index }
+        | Task::IndexSetting { index, .. }
+        | Task::OpenClose { index, .. }
+        | Task::Alias { index, .. } => touched.indices.insert(index.copy()?),
+        Task::ClusterSetting { key, .. } => touched.settings.insert(key.copy()?),
+        Task::Join { node } => touched.nodes.insert(node.name.copy()?),
+        Task::Leave { name } => touched.nodes.insert(name.copy()?),
+        Task::Reelect => Ok(()),
+    }
+}
