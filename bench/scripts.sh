@@ -1,6 +1,7 @@
 #!/usr/bin/env bash
-# Times the program on long scripts: how long one takes to be read, how much of that is JSON alone, and how the report
-# grows with the batches. README.md, beside this file, says how to read what it prints.
+# Times the program on long scripts: how long one takes to be read, how much of that is JSON alone, how the report grows
+# with the batches, and what a small change costs where there is much. README.md, beside this file, says how to read
+# what it prints. With words, it runs the scripts alone whose names begin with one of them.
 set -euo pipefail
 
 top=$(cd "$(dirname "$0")/.." && pwd)
@@ -27,16 +28,74 @@ write("steps_json_alone", 2, steps)
 for count in (707, 1414, 2828):
     submits = ['{"do":"submit","queue":"q","task":{"index":"index-%d"}}' % k for k in range(count)]
     write(f"batches_{count}", 1, "[[" + ",".join(submits) + "]]")
+# 2,816 tasks of 32 clients, in batches of 32
+write("together_2816", 1, json.dumps([[{"do": "submit", "queue": "q", "task": {"index": f"index-{c}-{k}"}}
+                                       for k in range(88)] for c in range(32)], separators=(",", ":")))
+
+def submit(queue, **task):
+    return {"do": "submit", "queue": queue, "task": task}
+
+# n indices are created, and then the last of them is changed n times, each time in a batch of its own
+queues = [("make", "create_index"), ("set", "index_settings"), ("name", "aliases")]
+for count in (350, 700, 1400):
+    last = f"index-{count - 1}"
+    replicas = lambda value: submit("set", index=last, key="index.number_of_replicas", value=value)
+    changes = {
+        "replicas": [replicas(k % 999 + 2) for k in range(count)],
+        "unchanged": [replicas(1) for k in range(count)],
+        "aliases": [submit("name", index=last, alias=f"alias-{k}", add=True) for k in range(count)],
+    }
+    for name, steps in changes.items():
+        made = [submit("make", index=f"index-{k}") for k in range(count)]
+        whole = {"version": 1, "cluster": "c", "nodes": [{"name": "a"}],
+                 "queues": [{"name": queue, "executor": executor} for queue, executor in queues],
+                 "clients": [made + steps]}
+        open(f"{folder}/{name}_{count}", "w").write(json.dumps(whole, separators=(",", ":")))
 PYTHON
 
+wanted() {
+    [ $# = 1 ] && return 0
+    local name=$1 word
+    shift
+    for word in "$@"; do case $name in "$word"*) return 0 ;; esac; done
+    return 1
+}
+
+# The instructions of one run, by callgrind, or nothing where there is none.
+instructions_of() {
+    command -v valgrind >"$work/where" || return 0
+    valgrind --tool=callgrind --callgrind-out-file=/dev/null "$program" replay \
+        <"$1" 2>"$work/said" >"$work/out" || true
+    sed -n 's/.*Collected : \([0-9]*\).*/\1/p' "$work/said"
+}
+
 "$top/bin/esmaster" none </dev/null || true
-for name in steps_read steps_json_alone batches_707 batches_1414 batches_2828; do
+program=$top/crates/esmaster/out/esmaster
+names="steps_read steps_json_alone batches_707 batches_1414 batches_2828 together_2816"
+for kind in replicas unchanged aliases; do names="$names ${kind}_350 ${kind}_700 ${kind}_1400"; done
+for name in $names; do
+    wanted "$name" "$@" || continue
     best=
     for _ in 1 2 3 4 5; do
-        /usr/bin/time -f '%e %M' -o "$work/time" "$top/bin/esmaster" replay <"$work/$name" >"$work/out" || true
+        /usr/bin/time -f '%e %M' -o "$work/time" "$program" replay <"$work/$name" >"$work/out" || true
         read -r seconds memory < <(tail -n 1 "$work/time")
         if [ -z "$best" ] || [ "$(echo "$seconds < $best" | bc)" = 1 ]; then best=$seconds; fi
     done
-    printf '%-18s script %9d bytes  best of five %6s s  peak %8d kB  output %9d bytes\n' \
+    case $name in
+        steps*) count= ;;
+        *) count=$(instructions_of "$work/$name") ;;
+    esac
+    printf '%-18s script %9d bytes  best of five %6s s  peak %8d kB  output %9d bytes' \
         "$name" "$(wc -c <"$work/$name")" "$best" "$memory" "$(wc -c <"$work/out")"
+    if [ -n "$count" ]; then
+        printf '  %12d instructions' "$count"
+        # each script of a kind is twice as long as the one before it
+        kind=${name%_*}
+        if [ "${before_kind:-}" = "$kind" ]; then
+            python3 -c "import math; print('  exponent %.2f' % math.log2($count / $before), end='')"
+        fi
+        before_kind=$kind
+        before=$count
+    fi
+    echo
 done

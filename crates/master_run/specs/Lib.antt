@@ -7,5 +7,6 @@ pub mod SerialSessions
 pub mod Singles
 pub mod Soundness
 pub mod Tellings
+pub mod Touching
 pub mod Turns
 pub mod Waitings

@@ -1,6 +1,9 @@
 ghost use Rattle.std.specs.Prelude.{◌≡◌, ◌+◌, ◌<◌, ◌^◌, IfOk, IsTrue, length, map};
 ghost use Rattle.std.specs.List.{list_all};
 ghost use Rattle.executors.specs.Kinds.{accepts};
+ghost use Rattle.meta_state.specs.States.{IsRoomy};
+ghost use Rattle.meta_state.specs.Versions.{next_of};
+ghost use Rattle.master_run.specs.Touching.{AreNamesOf, AgreeOutsideThese, ChangesOnlyThese};
 ghost use Rattle.session_law.specs.BatchSteps.{all_end, committed_world, dropped_world, end_of, executed_step, next_step};
 ghost use Rattle.session_law.specs.Histories.{task_at, tasks_at};
 ghost use Rattle.std.specs.Option.{option_copied};
@@ -8,8 +11,8 @@ ghost use Rattle.master_run.specs.Books.{input_at, ran_at};
 ghost use Rattle.master_run.specs.Rooms.{CanCount, HasRoom};
 
 use crate::publications::{commits, publish_to};
-use executors::{Executed, Executor, Kind, Mark, Task, Verdict, number};
-use meta_state::{ClusterState, Next, next_state};
+use executors::{Executed, Executor, Kind, Mark, Task, Verdict, number, touched_by};
+use meta_state::{ClusterState, Next, Touched, next_state, next_state_among};
 use plain_data::{Items, OutOfMemory};
 use scripts::{QueueSpec, Script, Step};
 use session_law::{BatchResult, Entry, Reach, Stepped, TaskEnd, World};
@@ -39,10 +42,35 @@ pub(crate) fn step_batch(
         });
     }
     let tasks = copy_tasks(alloc, script, entries)?;
+    let touched = names_to_compare(alloc, &world.state, &tasks)?;
     let contexts = number(alloc, tasks)?;
     let executed = queue.executor.execute(alloc, &world.state, contexts)?;
-    settle(alloc, script, world, queue, entries, at, executed)
+    settle(alloc, script, world, queue, entries, at, executed, touched)
 }
+
+/// The names that the tasks of a batch touch, where they are few beside what a state has. Where they are many, to
+/// compare all of it costs less than to look each of them up.
+fn names_to_compare(
+    alloc: Global,
+    state: &ClusterState,
+    tasks: &[Task],
+) -> Result<Option<Touched>, OutOfMemory>
+    ensures { IfOk result (AreNamesOf tasks.now) }
+{
+    let there = state
+        .metadata
+        .indices
+        .len()
+        .saturating_add(state.metadata.settings.len())
+        .saturating_add(state.nodes.len());
+    if there / COMPARED_PER_NAME < tasks.len() {
+        return Ok(None);
+    }
+    Ok(Some(touched_by(alloc, tasks)?))
+}
+
+/// How many pairs of a state are compared in the time that it takes to touch and look up one name.
+const COMPARED_PER_NAME: usize = 16;
 
 /// What comes of a batch that its executor ran.
 fn settle(
@@ -53,9 +81,11 @@ fn settle(
     entries: &[Entry],
     at: u64,
     executed: Executed,
+    touched: Option<Touched>,
 ) -> Result<Stepped, OutOfMemory>
     requires room { HasRoom world.old }
     requires each { length (tasks_at script.now entries.now) ≡ length entries.now }
+    requires touches { ChangesOnlyThese touched world.old.state executed }
     ensures { IfOk result (λ made. (made, world.new) ≡ executed_step (input_at script.now queue.now entries.now at) world.old executed) }
 {
     match executed {
@@ -64,7 +94,7 @@ fn settle(
             ends: all_ended(alloc, TaskEnd::BatchFailed { position, refusal }, entries)?,
         }),
         Executed::Made { state, marks } => {
-            let next = next_state(&world.state, state, world.proposals + 2);
+            let next = next_after(&world.state, state, world.proposals + 2, &touched);
             propose(
                 alloc,
                 script,
@@ -76,6 +106,23 @@ fn settle(
                 next,
             )
         }
+    }
+}
+
+/// The version rule, over the names that were touched alone where they are known.
+fn next_after(
+    prev: &ClusterState,
+    made: ClusterState,
+    id: u64,
+    touched: &Option<Touched>,
+) -> Next
+    requires roomy { IsRoomy prev.now }
+    requires touches { AgreeOutsideThese touched.now prev.now made }
+    ensures { result ≡ next_of prev.now made id }
+{
+    match touched {
+        None => next_state(prev, made, id),
+        Some(touched) => next_state_among(prev, made, id, touched),
     }
 }
 

@@ -1,0 +1,23 @@
+-- What the master knows of the names that a batch touched: nothing, where they are too many, or all of them.
+use Rattle.std.specs.Prelude.{◌≡◌, List, Some, None, Option}
+use Rattle.meta_state.specs.declared.cluster_state.ClusterState.{ClusterState}
+use Rattle.meta_state.specs.declared.touches.Touched.{Touched}
+use Rattle.meta_state.specs.Touches.{AgreeOutside}
+use Rattle.executors.specs.declared.executions.Executed.{Executed}
+use Rattle.executors.specs.declared.tasks.Task.{Task}
+use Rattle.executors.specs.Touching.{ChangesOnly, touched_by}
+
+-- where names are known, they are those of the tasks
+abbrev pub AreNamesOf : List Task → Option Touched → Type 0
+AreNamesOf tasks None = Unit {0}
+AreNamesOf tasks (Some touched) = touched ≡ touched_by tasks
+
+-- where names are known, two states agree outside of them
+abbrev pub AgreeOutsideThese : Option Touched → ClusterState → ClusterState → Type 0
+AgreeOutsideThese None a b = Unit {0}
+AgreeOutsideThese (Some touched) a b = AgreeOutside touched a b
+
+-- where names are known, what an executor made agrees with the state before it outside of them
+abbrev pub ChangesOnlyThese : Option Touched → ClusterState → Executed → Type 0
+ChangesOnlyThese None old executed = Unit {0}
+ChangesOnlyThese (Some touched) old executed = ChangesOnly touched old executed
