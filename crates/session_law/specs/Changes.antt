@@ -2,7 +2,8 @@
 -- order. An index is the same where its name and its identifier are; which lists there are is this project's own.
 use Rattle.std.specs.Prelude.{ℕ, Bool, true, false, not, ◌==◌, ◌&&◌, List, [], ◌∷◌, Option, Some, None, filter, is_some, bytes_eq}
 use Rattle.std.specs.Map.{keys_of}
-use Rattle.plain_data.specs.Pairs.{lookup, with}
+use Rattle.plain_data.specs.Agreements.{with_all}
+use Rattle.plain_data.specs.Pairs.{lookup}
 use Rattle.meta_state.specs.declared.index_metadata.IndexMetadata.{IndexMetadata}
 use Rattle.meta_state.specs.declared.node_info.NodeInfo.{NodeInfo}
 use Rattle.meta_state.specs.declared.cluster_state.ClusterState.{ClusterState}
@@ -39,14 +40,9 @@ is_same_value None None = true
 is_same_value (Some a) (Some b) = bytes_eq a b
 is_same_value _ _ = false
 
--- the settings of both, in byte order of their keys
-abbrev pub with_settings : List (List ℕ × List ℕ) → List (List ℕ × List ℕ) → List (List ℕ × List ℕ)
-with_settings [] all = all
-with_settings (setting ∷ settings) all = with_settings settings (with setting.0 setting.1 all)
-
 -- the keys that were added, removed or changed
 abbrev pub changed_settings : List (List ℕ × List ℕ) → List (List ℕ × List ℕ) → List (List ℕ)
-changed_settings old new = filter (λ key. not (is_same_value (lookup key old) (lookup key new))) (keys_of (with_settings old new))
+changed_settings old new = filter (λ key. not (is_same_value (lookup key old) (lookup key new))) (keys_of (with_all old new))
 
 unfoldable pub change_between : ClusterState → ClusterState → Change
 change_between old new = record {
