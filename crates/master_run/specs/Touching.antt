@@ -4,8 +4,9 @@ use Rattle.meta_state.specs.declared.cluster_state.ClusterState.{ClusterState}
 use Rattle.meta_state.specs.declared.touches.Touched.{Touched}
 use Rattle.meta_state.specs.Touches.{AgreeOutside}
 use Rattle.executors.specs.declared.executions.Executed.{Executed}
+use Rattle.executors.specs.declared.executions.Executed.TheVariants.{Made, Failed}
 use Rattle.executors.specs.declared.tasks.Task.{Task}
-use Rattle.executors.specs.Touching.{ChangesOnly, touched_by}
+use Rattle.executors.specs.Touching.{touched_by}
 
 -- where names are known, they are those of the tasks
 abbrev pub AreNamesOf : List Task → Option Touched → Type 0
@@ -19,5 +20,5 @@ AgreeOutsideThese (Some touched) a b = AgreeOutside touched a b
 
 -- where names are known, what an executor made agrees with the state before it outside of them
 abbrev pub ChangesOnlyThese : Option Touched → ClusterState → Executed → Type 0
-ChangesOnlyThese None old executed = Unit {0}
-ChangesOnlyThese (Some touched) old executed = ChangesOnly touched old executed
+ChangesOnlyThese touched old (Made state marks) = AgreeOutsideThese touched old state
+ChangesOnlyThese touched old (Failed position refusal) = Unit {0}
