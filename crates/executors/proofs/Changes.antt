@@ -1,11 +1,11 @@
 -- What an executor changes: no identifier and no version of the state, and of its indices, settings and nodes those alone
 -- that its tasks are about.
-use Rattle.std.specs.Prelude.{◌≡◌, ℕ, ◌+◌, ◌==◌, Bool, true, false, cond, List, [], ◌∷◌, Option, Some, None, refl, if◌then◌else◌}
-use Rattle.std.proofs.Common.{◌∙◌, sym, ap}
+use Rattle.std.specs.Prelude.{ℕ, ◌+◌, ◌==◌, Bool, true, false, List, [], ◌∷◌, Option, Some, None, refl, if◌then◌else◌}
+use Rattle.std.proofs.Common.{◌∙◌}
 use Rattle.std.specs.Bool.{beq}
 use Rattle.plain_data.specs.Agreements as maps
 use Rattle.plain_data.specs.Pairs.{lookup, with, without}
-use Rattle.plain_data.proofs.Lookups.{is_key, key_flipped, lookup-with, lookup-without_other}
+use Rattle.plain_data.proofs.Agreements.{agree_with, agree_with_itself, agree_without}
 use Rattle.meta_state.specs.declared.index_metadata.IndexMetadata.{IndexMetadata}
 use Rattle.meta_state.specs.declared.cluster_state.ClusterState.{ClusterState}
 use Rattle.meta_state.specs.declared.node_info.NodeInfo.{NodeInfo}
@@ -48,19 +48,12 @@ change_after touched others a b c p q = record {
 
 -- ---- one key of a map
 
-none_alone : {X : Type 0} (b : Bool) (x : X) → cond b (Some x) None ≡ None → b ≡ false
-none_alone true x e = absurd cc
-none_alone false x e = refl
-
-is_another : (name key : List ℕ) → lookup key ((name, tt {0}) ∷ []) ≡ None → is_key name key ≡ false
-is_another name key out = key_flipped name key ∙ none_alone (is_key key name) (tt {0}) out
-
 module _ {V : Type 0} where
   put_in : (name : List ℕ) (v : V) (m : List (List ℕ × V)) → maps.AgreeOutside ((name, tt) ∷ []) m (with name v m)
-  put_in name v m key out = sym (lookup-with name v key m ∙ ap (λ (b : Bool). cond b (Some v) (lookup key m)) (is_another name key out))
+  put_in name v m = agree_with [] name m m (agree_with_itself [] m) v
 
   taken_out : (name : List ℕ) (m : List (List ℕ × V)) → maps.AgreeOutside ((name, tt) ∷ []) m (without name m)
-  taken_out name m key out = sym (lookup-without_other name key m (is_another name key out))
+  taken_out name m = agree_without [] name m m (agree_with_itself [] m)
 
 set_at : (key : List ℕ) (value : Option (List ℕ)) (settings : List (List ℕ × List ℕ)) → maps.AgreeOutside ((key, tt) ∷ []) settings (settings_with settings key value)
 set_at key None settings = taken_out key settings

@@ -1,5 +1,6 @@
 -- The names at which tasks can change a state: of the index, the setting or the node that each is about. What an executor
--- makes of a batch agrees with the initial state outside of these names. This is the project's own.
+-- makes of a batch agrees with the initial state outside of these names; what has no name, as the term, isn't told of.
+-- This is the project's own.
 use Rattle.std.specs.Prelude.{ℕ, List, [], ◌∷◌, fold}
 use Rattle.meta_state.specs.declared.cluster_state.ClusterState.{ClusterState}
 use Rattle.meta_state.specs.declared.touches.Touched.{Touched}
@@ -35,7 +36,7 @@ touched_by_one task.Reelect = touched_none
 abbrev pub touched_also : Touched → List Task → Touched
 touched_also touched tasks = fold (λ t task. touched_by_both t (touched_by_one task)) touched tasks
 
--- what some tasks are about, and so all that they can change
+-- what some tasks are about: all indices, settings and nodes that they can change
 unfoldable pub touched_by : List Task → Touched
 touched_by tasks = touched_also touched_none tasks
 
