@@ -1,8 +1,8 @@
 pub mod Atomic
+pub mod Changes
 pub mod Counts
 pub mod Fold
 pub mod Marks
 pub mod Numbering
 pub mod Rising
 pub mod Settled
-pub mod Versions

@@ -1,44 +1,44 @@
--- The names at which a task can change a state: those that it carries. What an executor makes of a batch agrees with the
--- initial state outside of the names of its tasks. This is the project's own.
-use Rattle.std.specs.Prelude.{ℕ, List, [], ◌∷◌}
-use Rattle.plain_data.specs.Pairs.{with}
+-- The names at which tasks can change a state: of the index, the setting or the node that each is about. What an executor
+-- makes of a batch agrees with the initial state outside of these names; what has no name, as the term, isn't told of.
+-- This is the project's own.
+use Rattle.std.specs.Prelude.{ℕ, List, [], ◌∷◌, fold}
 use Rattle.meta_state.specs.declared.cluster_state.ClusterState.{ClusterState}
 use Rattle.meta_state.specs.declared.touches.Touched.{Touched}
-use Rattle.meta_state.specs.Touches.{AgreeOutside, touched_none}
+use Rattle.meta_state.specs.Touches.{AgreeOutside, touched_by_both, touched_none}
 use Rattle.executors.specs.declared.executions.Executed.{Executed}
 use Rattle.executors.specs.declared.executions.Executed.TheVariants.{Made, Failed}
 use Rattle.executors.specs.declared.tasks.Task.{Task}
 use Rattle.executors.specs.declared.tasks.Task.TheVariants as task
 
--- what was touched already, and an index, a setting or a node
-abbrev pub and_index : List ℕ → Touched → Touched
-and_index name touched = record touched { indices = with name tt touched.indices }
+-- one index, one setting or one node, and nothing else
+abbrev pub index_alone : List ℕ → Touched
+index_alone name = record touched_none { indices = (name, tt) ∷ [] }
 
-abbrev pub and_setting : List ℕ → Touched → Touched
-and_setting key touched = record touched { settings = with key tt touched.settings }
+abbrev pub setting_alone : List ℕ → Touched
+setting_alone key = record touched_none { settings = (key, tt) ∷ [] }
 
-abbrev pub and_node : List ℕ → Touched → Touched
-and_node name touched = record touched { nodes = with name tt touched.nodes }
+abbrev pub node_alone : List ℕ → Touched
+node_alone name = record touched_none { nodes = (name, tt) ∷ [] }
 
--- what was touched already, and the names that a task carries
-abbrev pub and_task : Task → Touched → Touched
-and_task (task.CreateIndex index shards replicas) = and_index index
-and_task (task.DeleteIndex index) = and_index index
-and_task (task.IndexSetting index key value) = and_index index
-and_task (task.OpenClose index opened) = and_index index
-and_task (task.Alias index alias add) = and_index index
-and_task (task.ClusterSetting key value) = and_setting key
-and_task (task.Join node) = and_node node.name
-and_task (task.Leave name) = and_node name
-and_task task.Reelect = λ touched. touched
+-- what one task is about; an election is about no name
+abbrev pub touched_by_one : Task → Touched
+touched_by_one (task.CreateIndex index shards replicas) = index_alone index
+touched_by_one (task.DeleteIndex index) = index_alone index
+touched_by_one (task.IndexSetting index key value) = index_alone index
+touched_by_one (task.OpenClose index opened) = index_alone index
+touched_by_one (task.Alias index alias add) = index_alone index
+touched_by_one (task.ClusterSetting key value) = setting_alone key
+touched_by_one (task.Join node) = node_alone node.name
+touched_by_one (task.Leave name) = node_alone name
+touched_by_one task.Reelect = touched_none
 
-abbrev pub and_tasks : List Task → Touched → Touched
-and_tasks [] touched = touched
-and_tasks (task ∷ tasks) touched = and_tasks tasks (and_task task touched)
+-- what was touched already, and what each of some tasks is about
+abbrev pub touched_also : Touched → List Task → Touched
+touched_also touched tasks = fold (λ t task. touched_by_both t (touched_by_one task)) touched tasks
 
--- the names that tasks carry
+-- what some tasks are about: all indices, settings and nodes that they can change
 unfoldable pub touched_by : List Task → Touched
-touched_by tasks = and_tasks tasks touched_none
+touched_by tasks = touched_also touched_none tasks
 
 -- what an executor made of a state agrees with it outside of some names
 abbrev pub ChangesOnly : Touched → ClusterState → Executed → Type 0

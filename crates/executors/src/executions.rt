@@ -51,9 +51,9 @@ pub trait Executor {
     fn needs_master(&self) -> bool
         ensures { result ≡ masters self.now };
 
-    /// Completes each context once and answers the state that they leave, whose identifier, version and metadata
-    /// version are those of `initial`, and which differs from it at the names of the tasks alone, with one mark for each
-    /// context, in order. Want of memory leaves nothing.
+    /// Completes each context once and answers the state that they leave, with one mark for each context, in order.
+    /// Its identifier, version and metadata version are those of `initial`, and its indices, settings and nodes differ
+    /// from those of `initial` at the names alone that `touched_by` tells of the tasks. Want of memory leaves nothing.
     fn execute(
         &self,
         alloc: Global,

@@ -4,7 +4,7 @@ use meta_state::NodeInfo;
 use plain_data::{OutOfMemory, Text};
 use std::alloc::Global;
 
-/// A change of the cluster state that a client asks for.
+/// A change of the cluster state that is asked for.
 #[derive(Debug, Drop)]
 pub enum Task {
     CreateIndex {

@@ -1,12 +1,14 @@
 ghost use Rattle.std.specs.Prelude.{◌≡◌, IfOk, OnOk};
-ghost use Rattle.executors.specs.Touching.{and_task, touched_by};
+ghost use Rattle.meta_state.specs.Touches.{touched_by_both};
+ghost use Rattle.executors.specs.Touching.{touched_by, touched_by_one};
 
 use crate::tasks::Task;
 use meta_state::Touched;
 use plain_data::OutOfMemory;
 use std::alloc::Global;
 
-/// The names that tasks carry, at which alone they can change a state. Its cost grows with the tasks.
+/// The names at which alone tasks can change a state (this project's own): of the index, the setting or the node that
+/// each is about. Its cost grows with the tasks, and not with the state.
 #[tactic(auto, unfolding(crate::specs::Touching::touched_by))]
 pub fn touched_by(alloc: Global, tasks: &[Task]) -> Result<Touched, OutOfMemory>
     ensures { IfOk result (λ made. made ≡ touched_by tasks.now) }
@@ -19,7 +21,7 @@ pub fn touched_by(alloc: Global, tasks: &[Task]) -> Result<Touched, OutOfMemory>
 }
 
 fn add_task(touched: &mut Touched, task: &Task) -> Result<(), OutOfMemory>
-    ensures { OnOk result (touched.new ≡ and_task task.now touched.old) }
+    ensures { OnOk result (touched.new ≡ touched_by_both touched.old (touched_by_one task.now)) }
 {
     match task {
         Task::CreateIndex { index, .. }

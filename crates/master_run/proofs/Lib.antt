@@ -11,5 +11,4 @@ pub mod Serving
 pub mod Single
 pub mod Submitting
 pub mod Taken
-pub mod Touched
 pub mod Voters
