@@ -1,5 +1,5 @@
--- What an executor changes: no identifier and no version of the state, and of its indices, settings and nodes those alone
--- that its tasks are about.
+-- What an executor changes: no identifier and no version of the state, and of its indices, settings and nodes those
+-- alone that its tasks are about.
 use Rattle.std.specs.Prelude.{ℕ, ◌+◌, ◌==◌, Bool, true, false, List, [], ◌∷◌, Option, Some, None, refl, if◌then◌else◌}
 use Rattle.std.proofs.Common.{◌∙◌}
 use Rattle.std.specs.Bool.{beq}

@@ -1,6 +1,6 @@
--- The names at which tasks can change a state: of the index, the setting or the node that each is about. What an executor
--- makes of a batch agrees with the initial state outside of these names; what has no name, as the term, isn't told of.
--- This is the project's own.
+-- The names at which tasks can change a state: of the index, the setting or the node that each is about. What an
+-- executor makes of a batch agrees with the initial state outside of these names; what has no name, as the term, isn't
+-- told of. This is the project's own.
 use Rattle.std.specs.Prelude.{ℕ, List, [], ◌∷◌, fold}
 use Rattle.meta_state.specs.declared.cluster_state.ClusterState.{ClusterState}
 use Rattle.meta_state.specs.declared.touches.Touched.{Touched}
