@@ -110,12 +110,7 @@ fn settle(
 }
 
 /// The version rule, over the names that were touched alone where they are known.
-fn next_after(
-    prev: &ClusterState,
-    made: ClusterState,
-    id: u64,
-    touched: &Option<Touched>,
-) -> Next
+fn next_after(prev: &ClusterState, made: ClusterState, id: u64, touched: &Option<Touched>) -> Next
     requires roomy { IsRoomy prev.now }
     requires touches { AgreeOutsideThese touched.now prev.now made }
     ensures { result ≡ next_of prev.now made id }
