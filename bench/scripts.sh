@@ -28,9 +28,6 @@ write("steps_json_alone", 2, steps)
 for count in (707, 1414, 2828):
     submits = ['{"do":"submit","queue":"q","task":{"index":"index-%d"}}' % k for k in range(count)]
     write(f"batches_{count}", 1, "[[" + ",".join(submits) + "]]")
-# 2,816 tasks of 32 clients, in batches of 32
-write("together_2816", 1, json.dumps([[{"do": "submit", "queue": "q", "task": {"index": f"index-{c}-{k}"}}
-                                       for k in range(88)] for c in range(32)], separators=(",", ":")))
 
 def submit(queue, **task):
     return {"do": "submit", "queue": queue, "task": task}
@@ -43,7 +40,7 @@ for count in (350, 700, 1400):
     changes = {
         "replicas": [replicas(k % 999 + 2) for k in range(count)],
         "unchanged": [replicas(1) for k in range(count)],
-        "aliases": [submit("name", index=last, alias=f"alias-{k}", add=True) for k in range(count)],
+        "aliases": [submit("name", index=last, alias=f"alias-{k}", action="add") for k in range(count)],
     }
     for name, steps in changes.items():
         made = [submit("make", index=f"index-{k}") for k in range(count)]
@@ -71,7 +68,7 @@ instructions_of() {
 
 "$top/bin/esmaster" none </dev/null || true
 program=$top/crates/esmaster/out/esmaster
-names="steps_read steps_json_alone batches_707 batches_1414 batches_2828 together_2816"
+names="steps_read steps_json_alone batches_707 batches_1414 batches_2828"
 for kind in replicas unchanged aliases; do names="$names ${kind}_350 ${kind}_700 ${kind}_1400"; done
 for name in $names; do
     wanted "$name" "$@" || continue
