@@ -32,10 +32,10 @@ for count in (707, 1414, 2828):
 def submit(queue, **task):
     return {"do": "submit", "queue": queue, "task": task}
 
-# n indices are created, and then the last of them is changed n times, each time in a batch of its own
+# n indices are created, and then the last of them in byte order is changed n times, each time in a batch of its own
 queues = [("make", "create_index"), ("set", "index_settings"), ("name", "aliases")]
 for count in (350, 700, 1400):
-    last = f"index-{count - 1}"
+    last = f"index-{count - 1:04}"
     replicas = lambda value: submit("set", index=last, key="index.number_of_replicas", value=value)
     changes = {
         "replicas": [replicas(k % 999 + 2) for k in range(count)],
@@ -43,7 +43,7 @@ for count in (350, 700, 1400):
         "aliases": [submit("name", index=last, alias=f"alias-{k}", action="add") for k in range(count)],
     }
     for name, steps in changes.items():
-        made = [submit("make", index=f"index-{k}") for k in range(count)]
+        made = [submit("make", index=f"index-{k:04}") for k in range(count)]
         whole = {"version": 1, "cluster": "c", "nodes": [{"name": "a"}],
                  "queues": [{"name": queue, "executor": executor} for queue, executor in queues],
                  "clients": [made + steps]}
