@@ -1,1 +1,2 @@
+mod MapLaws
 mod ReadOff

@@ -1,5 +1,11 @@
+ghost use Rattle.std.specs.Prelude.{◌≡◌, [], IfOk, IsTrue, ◌↔◌};
+ghost use Rattle.plain_data.specs.Agreements.{AgreeOutside};
+ghost use Rattle.state_diff.specs.MapDiffs.{map_between, map_patched};
+
 use crate::diffables::Diffable;
-use plain_data::{Map, NameSet};
+use crate::noting::{deletes_at, diffs_at, upserts_at};
+use plain_data::{Map, NameSet, OutOfMemory};
+use std::alloc::Global;
 
 /// What leads from one map to another.
 #[derive(Drop)]
@@ -12,4 +18,58 @@ pub struct MapDiff<V: Diffable> {
 
     /// The values that the second map has at keys that the first one lacks.
     pub upserts: Map<V>,
+}
+
+impl<V: Diffable> MapDiff<V> {
+    /// Whether it leads from each map to itself.
+    pub fn is_empty(&self) -> bool
+        ensures { IsTrue result ↔ (self.now ≡ record { deletes = []; diffs = []; upserts = [] }) }
+    {
+        self.deletes.is_empty() && self.diffs.is_empty() && self.upserts.is_empty()
+    }
+}
+
+/// What leads from one map to another. It costs look-ups at each key of both.
+pub(crate) fn between_maps<V: Diffable>(
+    alloc: Global,
+    a: &Map<V>,
+    b: &Map<V>,
+) -> Result<MapDiff<V>, OutOfMemory>
+    ensures made { IfOk result (λ made. made ≡ map_between V.eq V.between a.now b.now) }
+    ensures leads { IfOk result (λ made. map_patched V.patched made a.now ≡ b.now) }
+{
+    // The keys of both stand in order.
+    let _ = (a.len(), b.len());
+    let deletes = deletes_at(alloc, a, b, a)?;
+    let diffs = diffs_at(alloc, a, b, a)?;
+    let upserts = upserts_at(alloc, a, b, b)?;
+    Ok(MapDiff {
+        deletes: NameSet::from_map(deletes),
+        diffs,
+        upserts,
+    })
+}
+
+/// The same where it is known outside of which names the two maps agree. It costs look-ups at each of these.
+pub(crate) fn between_maps_among<V: Diffable>(
+    alloc: Global,
+    a: &Map<V>,
+    b: &Map<V>,
+    names: &NameSet,
+) -> Result<MapDiff<V>, OutOfMemory>
+    requires { AgreeOutside names.now a.now b.now }
+    ensures made { IfOk result (λ made. made ≡ map_between V.eq V.between a.now b.now) }
+    ensures leads { IfOk result (λ made. map_patched V.patched made a.now ≡ b.now) }
+{
+    // The keys of all three stand in order.
+    let _ = (a.len(), b.len(), names.len());
+    let keys = names.as_map();
+    let deletes = deletes_at(alloc, a, b, keys)?;
+    let diffs = diffs_at(alloc, a, b, keys)?;
+    let upserts = upserts_at(alloc, a, b, keys)?;
+    Ok(MapDiff {
+        deletes: NameSet::from_map(deletes),
+        diffs,
+        upserts,
+    })
 }
