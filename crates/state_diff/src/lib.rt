@@ -6,6 +6,7 @@ mod changes;
 mod diffables;
 mod map_diffs;
 mod noting;
+mod patching;
 
 pub use diffables::{Copied, Diffable, Unpatched};
 pub use map_diffs::MapDiff;

@@ -55,7 +55,7 @@ pub(crate) fn between_maps_among<V: Diffable>(
     alloc: Global,
     a: &Map<V>,
     b: &Map<V>,
-    names: &NameSet,
+    names: &Map<()>,
 ) -> Result<MapDiff<V>, OutOfMemory>
     requires { AgreeOutside names.now a.now b.now }
     ensures made { IfOk result (λ made. made ≡ map_between V.eq V.between a.now b.now) }
@@ -63,10 +63,9 @@ pub(crate) fn between_maps_among<V: Diffable>(
 {
     // The keys of all three stand in order.
     let _ = (a.len(), b.len(), names.len());
-    let keys = names.as_map();
-    let deletes = deletes_at(alloc, a, b, keys)?;
-    let diffs = diffs_at(alloc, a, b, keys)?;
-    let upserts = upserts_at(alloc, a, b, keys)?;
+    let deletes = deletes_at(alloc, a, b, names)?;
+    let diffs = diffs_at(alloc, a, b, names)?;
+    let upserts = upserts_at(alloc, a, b, names)?;
     Ok(MapDiff {
         deletes: NameSet::from_map(deletes),
         diffs,
