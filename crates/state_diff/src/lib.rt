@@ -4,9 +4,16 @@
 
 mod changes;
 mod diffables;
+mod index_diffs;
 mod map_diffs;
+mod metadata_diffs;
 mod noting;
 mod patching;
+mod set_diffs;
+mod state_diffs;
 
 pub use diffables::{Copied, Diffable, Unpatched};
+pub use index_diffs::IndexDiff;
 pub use map_diffs::MapDiff;
+pub use metadata_diffs::MetadataDiff;
+pub use state_diffs::{ApplyFault, ApplyRefusal, DiffParts, StateDiff};

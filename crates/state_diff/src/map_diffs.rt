@@ -2,8 +2,9 @@ ghost use Rattle.std.specs.Prelude.{◌≡◌, [], IfOk, IsTrue, ◌↔◌};
 ghost use Rattle.plain_data.specs.Agreements.{AgreeOutside};
 ghost use Rattle.state_diff.specs.MapDiffs.{map_between, map_patched};
 
-use crate::diffables::Diffable;
+use crate::diffables::{Copied, Diffable, Unpatched};
 use crate::noting::{deletes_at, diffs_at, upserts_at};
+use crate::patching::{or_unpatched, patch_pairs};
 use plain_data::{Map, NameSet, OutOfMemory};
 use std::alloc::Global;
 
@@ -71,4 +72,31 @@ pub(crate) fn between_maps_among<V: Diffable>(
         diffs,
         upserts,
     })
+}
+
+impl<V: Diffable> Copied for Map<V> {
+    fn copied(&self, _alloc: Global) -> Result<Map<V>, OutOfMemory> {
+        self.copy()
+    }
+}
+
+impl<V: Diffable> Diffable for Map<V> {
+    type Diff = MapDiff<V>;
+
+    ghost between = { map_between V.eq V.between };
+
+    ghost patched = { map_patched V.patched };
+
+    fn between(alloc: Global, a: &Map<V>, b: &Map<V>) -> Result<MapDiff<V>, OutOfMemory> {
+        between_maps(alloc, a, b)
+    }
+
+    fn patch(
+        alloc: Global,
+        diff: &MapDiff<V>,
+        value: Map<V>,
+    ) -> Result<Map<V>, Unpatched<Map<V>>> {
+        let made = patch_pairs(alloc, diff, &value);
+        or_unpatched(made, value)
+    }
 }

@@ -1,0 +1,152 @@
+ghost use Rattle.std.specs.Prelude.{◌≡◌, IfOk};
+ghost use Rattle.meta_state.specs.Exact.{index_eq};
+ghost use Rattle.state_diff.specs.IndexDiffs.{index_between, index_patched, indices_between, indices_patched};
+
+use crate::changes::{change_between, patch_change};
+use crate::diffables::{Copied, Diffable, Unpatched};
+use crate::map_diffs::{MapDiff, between_maps};
+use crate::patching::{Keyed, or_unpatched, patch_copy, patch_pairs};
+use crate::set_diffs::patch_names;
+use meta_state::{IndexMetadata, IndexTable};
+use plain_data::{NameSet, OutOfMemory, Text};
+use std::alloc::Global;
+
+/// What leads from the metadata of an index to others: of each part but the aliases the new value, where it differs.
+#[derive(Drop)]
+pub struct IndexDiff {
+    pub id: Option<u64>,
+    pub version: Option<u64>,
+    pub settings_version: Option<u64>,
+    pub aliases_version: Option<u64>,
+    pub opened: Option<bool>,
+    pub shards: Option<u64>,
+    pub replicas: Option<u64>,
+    pub aliases: MapDiff<()>,
+}
+
+impl Copied for IndexMetadata {
+    fn copied(&self, alloc: Global) -> Result<IndexMetadata, OutOfMemory> {
+        self.copy(alloc)
+    }
+}
+
+impl Diffable for IndexMetadata {
+    type Diff = IndexDiff;
+
+    ghost between = { index_between };
+
+    ghost patched = { index_patched };
+
+    #[tactic(auto, using(crate::proofs::Records::index_leads))]
+    fn between(
+        alloc: Global,
+        a: &IndexMetadata,
+        b: &IndexMetadata,
+    ) -> Result<IndexDiff, OutOfMemory> {
+        Ok(IndexDiff {
+            id: change_between(alloc, &a.id, &b.id)?,
+            version: change_between(alloc, &a.version, &b.version)?,
+            settings_version: change_between(alloc, &a.settings_version, &b.settings_version)?,
+            aliases_version: change_between(alloc, &a.aliases_version, &b.aliases_version)?,
+            opened: change_between(alloc, &a.opened, &b.opened)?,
+            shards: change_between(alloc, &a.shards, &b.shards)?,
+            replicas: change_between(alloc, &a.replicas, &b.replicas)?,
+            aliases: NameSet::between(alloc, &a.aliases, &b.aliases)?,
+        })
+    }
+
+    fn patch(
+        alloc: Global,
+        diff: &IndexDiff,
+        value: IndexMetadata,
+    ) -> Result<IndexMetadata, Unpatched<IndexMetadata>> {
+        let made = patch_index(alloc, diff, &value);
+        or_unpatched(made, value)
+    }
+}
+
+fn patch_index(
+    alloc: Global,
+    diff: &IndexDiff,
+    index: &IndexMetadata,
+) -> Result<IndexMetadata, OutOfMemory>
+    ensures { IfOk result (λ made. made ≡ index_patched diff.now index.now) }
+{
+    Ok(IndexMetadata {
+        id: diff.id.unwrap_or(index.id),
+        version: diff.version.unwrap_or(index.version),
+        settings_version: diff.settings_version.unwrap_or(index.settings_version),
+        aliases_version: diff.aliases_version.unwrap_or(index.aliases_version),
+        opened: diff.opened.unwrap_or(index.opened),
+        shards: diff.shards.unwrap_or(index.shards),
+        replicas: diff.replicas.unwrap_or(index.replicas),
+        aliases: patch_names(alloc, &diff.aliases, &index.aliases)?,
+    })
+}
+
+impl Copied for IndexTable {
+    fn copied(&self, _alloc: Global) -> Result<IndexTable, OutOfMemory> {
+        self.copy()
+    }
+}
+
+impl Diffable for IndexTable {
+    type Diff = MapDiff<IndexMetadata>;
+
+    ghost between = { indices_between };
+
+    ghost patched = { indices_patched };
+
+    fn between(
+        alloc: Global,
+        a: &IndexTable,
+        b: &IndexTable,
+    ) -> Result<MapDiff<IndexMetadata>, OutOfMemory> {
+        between_maps(alloc, a.by_name(), b.by_name())
+    }
+
+    fn patch(
+        alloc: Global,
+        diff: &MapDiff<IndexMetadata>,
+        value: IndexTable,
+    ) -> Result<IndexTable, Unpatched<IndexTable>> {
+        let made = patch_pairs(alloc, diff, &value);
+        or_unpatched(made, value)
+    }
+}
+
+impl Keyed<IndexMetadata> for IndexTable {
+    ghost pairs = { λ t. t };
+
+    fn share(&self) -> Result<IndexTable, OutOfMemory> {
+        self.copy()
+    }
+
+    fn put(&mut self, key: Text, value: IndexMetadata) -> Result<(), OutOfMemory> {
+        self.set(key, value)
+    }
+
+    fn take_out(&mut self, key: &Text) -> Result<(), OutOfMemory> {
+        self.remove(key)
+    }
+
+    // A diff that leaves the aliases costs no walk over them.
+    fn patch_at(
+        &mut self,
+        alloc: Global,
+        key: &Text,
+        diff: &IndexDiff,
+    ) -> Result<(), OutOfMemory> {
+        match self.get(key) {
+            None => Ok(()),
+            Some(index) => {
+                let made = patch_index(alloc, diff, index)?;
+                if diff.aliases.is_empty() {
+                    self.set_keeping_aliases(key.copy()?, made)
+                } else {
+                    self.set(key.copy()?, made)
+                }
+            }
+        }
+    }
+}
