@@ -140,12 +140,12 @@ module _ {V D : Type 0} (eq : V → V → Bool) (between : V → V → D) (patch
         let r : InOrder after = in_order_all_patched patched diffs more (in_order_with_all upserts m s) in
         let there : (q : List ℕ) → lookup q after ≡ patched_option patched (both_differ eq between (lookup q m) (lookup q n)) (option_or (only_second (lookup q m) (lookup q n)) (lookup q m)) =
         λ q. lookup-all_patched patched q diffs more (in_order_merged (both_differ eq between) refl m n t)
-            ∙ (λ i. patched_option patched (lookup-merged (both_differ eq between) refl m n q i)
-                ((lookup-with_all q upserts m (in_order_merged only_second refl m n t) ∙ ap (λ (o : Option V). option_or o (lookup q m)) (lookup-merged only_second refl m n q)) i)) in
+        ∙ (λ i. patched_option patched (lookup-merged (both_differ eq between) refl m n q i)
+        ((lookup-with_all q upserts m (in_order_merged only_second refl m n t) ∙ ap (λ (o : Option V). option_or o (lookup q m)) (lookup-merged only_second refl m n q)) i)) in
         same_from_lookups (without_all deletes after) n (in_order_without_all deletes after r) t
-            (λ q. lookup-without_all q deletes after r
-                ∙ (λ i. cond (is_some (lookup-merged only_first refl m n q i)) None (there q i))
-                ∙ one_leads (lookup q m) (lookup q n) (lead q))
+        (λ q. lookup-without_all q deletes after r
+        ∙ (λ i. cond (is_some (lookup-merged only_first refl m n q i)) None (there q i))
+        ∙ one_leads (lookup q m) (lookup q n) (lead q))
 
   same_leads : (o p : Option V) → o ≡ p → Lead eq between patched o p
   same_leads None p e = tt

@@ -37,6 +37,11 @@ pub state_leads : (d : DiffParts) (a b : ClusterState) → d.from_id ≡ a.id �
     → settings_patched d.settings a.metadata.settings ≡ b.metadata.settings → indices_patched d.indices a.metadata.indices ≡ b.metadata.indices → applied d a ≡ Some b
 state_leads d a b from to differ version cluster term master nodes metadata created settings indices =
     applied_from d a b from to differ (λ i. record {
-      cluster = cluster i; id = to i; term = term i; version = version i; master = master i; nodes = nodes i;
+      cluster = cluster i;
+      id = to i;
+      term = term i;
+      version = version i;
+      master = master i;
+      nodes = nodes i;
       metadata = record { version = metadata i; created = created i; settings = settings i; indices = indices i };
     })

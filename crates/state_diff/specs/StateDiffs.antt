@@ -60,9 +60,9 @@ applied diff state =
 
 -- why a diff wasn't applied: memory may be wanting to whoever could apply it, and all others are incompatible
 abbrev pub HasCause : DiffParts → ClusterState → ApplyRefusal → Type 0
-HasCause diff state (Incompatible refused) = (applied diff state ≡ None) × ((refused.has ≡ state.id) × (refused.wants ≡ diff.from_id))
+HasCause diff state (Incompatible has wants) = (applied diff state ≡ None) × ((has ≡ state.id) × (wants ≡ diff.from_id))
 HasCause diff state OutOfMemory = applied diff state ≡ Some (state_patched diff state)
 
 abbrev pub apply_refusal_number : ApplyRefusal → ℕ
-apply_refusal_number (Incompatible refused) = 1
+apply_refusal_number (Incompatible has wants) = 1
 apply_refusal_number OutOfMemory = 2

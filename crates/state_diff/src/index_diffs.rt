@@ -1,14 +1,14 @@
 ghost use Rattle.std.specs.Prelude.{◌≡◌, IfOk};
-ghost use Rattle.meta_state.specs.Exact.{index_eq};
+ghost use Rattle.plain_data.specs.Agreements.{AgreeOutside};
 ghost use Rattle.state_diff.specs.IndexDiffs.{index_between, index_patched, indices_between, indices_patched};
 
-use crate::changes::{change_between, patch_change};
+use crate::changes::change_between;
 use crate::diffables::{Copied, Diffable, Unpatched};
-use crate::map_diffs::{MapDiff, between_maps};
-use crate::patching::{Keyed, or_unpatched, patch_copy, patch_pairs};
+use crate::map_diffs::{MapDiff, between_maps, between_maps_among};
+use crate::patching::{Keyed, or_unpatched, patch_pairs};
 use crate::set_diffs::patch_names;
 use meta_state::{IndexMetadata, IndexTable};
-use plain_data::{NameSet, OutOfMemory, Text};
+use plain_data::{Map, NameSet, OutOfMemory, Text};
 use std::alloc::Global;
 
 /// What leads from the metadata of an index to others: of each part but the aliases the new value, where it differs.
@@ -115,6 +115,20 @@ impl Diffable for IndexTable {
     }
 }
 
+/// What leads from some indices to others, where it is known outside of which names they agree.
+pub(crate) fn between_indices_among(
+    alloc: Global,
+    a: &IndexTable,
+    b: &IndexTable,
+    names: &Map<()>,
+) -> Result<MapDiff<IndexMetadata>, OutOfMemory>
+    requires { AgreeOutside names.now a.now b.now }
+    ensures made { IfOk result (λ made. made ≡ indices_between a.now b.now) }
+    ensures leads { IfOk result (λ made. indices_patched made a.now ≡ b.now) }
+{
+    between_maps_among(alloc, a.by_name(), b.by_name(), names)
+}
+
 impl Keyed<IndexMetadata> for IndexTable {
     ghost pairs = { λ t. t };
 
@@ -131,12 +145,7 @@ impl Keyed<IndexMetadata> for IndexTable {
     }
 
     // A diff that leaves the aliases costs no walk over them.
-    fn patch_at(
-        &mut self,
-        alloc: Global,
-        key: &Text,
-        diff: &IndexDiff,
-    ) -> Result<(), OutOfMemory> {
+    fn patch_at(&mut self, alloc: Global, key: &Text, diff: &IndexDiff) -> Result<(), OutOfMemory> {
         match self.get(key) {
             None => Ok(()),
             Some(index) => {

@@ -91,11 +91,7 @@ impl<V: Diffable> Diffable for Map<V> {
         between_maps(alloc, a, b)
     }
 
-    fn patch(
-        alloc: Global,
-        diff: &MapDiff<V>,
-        value: Map<V>,
-    ) -> Result<Map<V>, Unpatched<Map<V>>> {
+    fn patch(alloc: Global, diff: &MapDiff<V>, value: Map<V>) -> Result<Map<V>, Unpatched<Map<V>>> {
         let made = patch_pairs(alloc, diff, &value);
         or_unpatched(made, value)
     }

@@ -5,7 +5,6 @@ ghost use Rattle.state_diff.specs.MapDiffs.{all_patched, map_patched, patched_at
 
 use crate::diffables::{Diffable, Unpatched};
 use crate::map_diffs::MapDiff;
-
 use plain_data::{Map, NameSet, OutOfMemory, Text};
 use std::alloc::Global;
 
@@ -99,10 +98,7 @@ fn patch_all<V: Diffable, M: Keyed<V>>(
     Ok(())
 }
 
-fn take_out_all<V: Diffable, M: Keyed<V>>(
-    map: &mut M,
-    deletes: &NameSet,
-) -> Result<(), OutOfMemory>
+fn take_out_all<V: Diffable, M: Keyed<V>>(map: &mut M, deletes: &NameSet) -> Result<(), OutOfMemory>
     ensures { OnOk result (M.pairs map.new ≡ without_all deletes.now (M.pairs map.old)) }
 {
     for key in deletes.iter() {

@@ -6,10 +6,11 @@ ghost use Rattle.state_diff.specs.IndexDiffs.{indices_between, indices_patched};
 ghost use Rattle.state_diff.specs.StateDiffs.{nodes_between, nodes_patched, state_between, state_patched, applied, HasCause, apply_refusal_number};
 
 use crate::changes::change_between;
-use crate::diffables::Copied;
+use crate::diffables::{Copied, Diffable};
+use crate::index_diffs::between_indices_among;
 use crate::map_diffs::{MapDiff, between_maps, between_maps_among};
 use crate::patching::patch_pairs;
-use meta_state::{ClusterState, IndexMetadata, Metadata, NodeInfo, Touched};
+use meta_state::{ClusterState, IndexMetadata, IndexTable, Metadata, NodeInfo, Touched};
 use plain_data::{OutOfMemory, Text};
 use std::alloc::Global;
 use std::marker::Model;
@@ -65,7 +66,7 @@ impl StateDiff {
     {
         let nodes = between_maps(alloc, &a.nodes, &b.nodes)?;
         let settings = between_maps(alloc, &a.metadata.settings, &b.metadata.settings)?;
-        let indices = between_maps(alloc, a.metadata.indices.by_name(), b.metadata.indices.by_name())?;
+        let indices = IndexTable::between(alloc, &a.metadata.indices, &b.metadata.indices)?;
         of_maps(alloc, a, b, nodes, settings, indices)
     }
 
@@ -84,8 +85,18 @@ impl StateDiff {
     {
         let (old, new) = (&a.metadata, &b.metadata);
         let nodes = between_maps_among(alloc, &a.nodes, &b.nodes, touched.nodes.as_map())?;
-        let settings = between_maps_among(alloc, &old.settings, &new.settings, touched.settings.as_map())?;
-        let indices = between_maps_among(alloc, old.indices.by_name(), new.indices.by_name(), touched.indices.as_map())?;
+        let settings = between_maps_among(
+            alloc,
+            &old.settings,
+            &new.settings,
+            touched.settings.as_map(),
+        )?;
+        let indices = between_indices_among(
+            alloc,
+            &old.indices,
+            &new.indices,
+            touched.indices.as_map(),
+        )?;
         of_maps(alloc, a, b, nodes, settings, indices)
     }
 
