@@ -2,9 +2,8 @@ ghost use Rattle.std.specs.Prelude.{◌≡◌, IfOk};
 ghost use Rattle.plain_data.specs.Agreements.{AgreeOutside};
 ghost use Rattle.state_diff.specs.IndexDiffs.{index_between, index_patched, indices_between, indices_patched};
 
-use crate::changes::change_between;
 use crate::diffables::{Copied, Diffable, Unpatched};
-use crate::map_diffs::{MapDiff, between_maps, between_maps_among};
+use crate::map_diffs::{MapDiff, between_maps_among};
 use crate::patching::{Keyed, or_unpatched, patch_pairs};
 use crate::set_diffs::patch_names;
 use meta_state::{IndexMetadata, IndexTable};
@@ -44,13 +43,13 @@ impl Diffable for IndexMetadata {
         b: &IndexMetadata,
     ) -> Result<IndexDiff, OutOfMemory> {
         Ok(IndexDiff {
-            id: change_between(alloc, &a.id, &b.id)?,
-            version: change_between(alloc, &a.version, &b.version)?,
-            settings_version: change_between(alloc, &a.settings_version, &b.settings_version)?,
-            aliases_version: change_between(alloc, &a.aliases_version, &b.aliases_version)?,
-            opened: change_between(alloc, &a.opened, &b.opened)?,
-            shards: change_between(alloc, &a.shards, &b.shards)?,
-            replicas: change_between(alloc, &a.replicas, &b.replicas)?,
+            id: u64::between(alloc, &a.id, &b.id)?,
+            version: u64::between(alloc, &a.version, &b.version)?,
+            settings_version: u64::between(alloc, &a.settings_version, &b.settings_version)?,
+            aliases_version: u64::between(alloc, &a.aliases_version, &b.aliases_version)?,
+            opened: bool::between(alloc, &a.opened, &b.opened)?,
+            shards: u64::between(alloc, &a.shards, &b.shards)?,
+            replicas: u64::between(alloc, &a.replicas, &b.replicas)?,
             aliases: NameSet::between(alloc, &a.aliases, &b.aliases)?,
         })
     }
@@ -102,7 +101,7 @@ impl Diffable for IndexTable {
         a: &IndexTable,
         b: &IndexTable,
     ) -> Result<MapDiff<IndexMetadata>, OutOfMemory> {
-        between_maps(alloc, a.by_name(), b.by_name())
+        Map::between(alloc, a.by_name(), b.by_name())
     }
 
     fn patch(

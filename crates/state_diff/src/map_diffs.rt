@@ -30,28 +30,8 @@ impl<V: Diffable> MapDiff<V> {
     }
 }
 
-/// What leads from one map to another. It costs look-ups at each key of both.
-pub(crate) fn between_maps<V: Diffable>(
-    alloc: Global,
-    a: &Map<V>,
-    b: &Map<V>,
-) -> Result<MapDiff<V>, OutOfMemory>
-    ensures made { IfOk result (λ made. made ≡ map_between V.eq V.between a.now b.now) }
-    ensures leads { IfOk result (λ made. map_patched V.patched made a.now ≡ b.now) }
-{
-    // The keys of both stand in order.
-    let _ = (a.len(), b.len());
-    let deletes = deletes_at(alloc, a, b, a)?;
-    let diffs = diffs_at(alloc, a, b, a)?;
-    let upserts = upserts_at(alloc, a, b, b)?;
-    Ok(MapDiff {
-        deletes: NameSet::from_map(deletes),
-        diffs,
-        upserts,
-    })
-}
-
-/// The same where it is known outside of which names the two maps agree. It costs look-ups at each of these.
+/// What leads from one map to another, where it is known outside of which names the two agree. It costs look-ups at
+/// each of these.
 pub(crate) fn between_maps_among<V: Diffable>(
     alloc: Global,
     a: &Map<V>,
@@ -87,8 +67,18 @@ impl<V: Diffable> Diffable for Map<V> {
 
     ghost patched = { map_patched V.patched };
 
+    // It costs look-ups at each key of both.
     fn between(alloc: Global, a: &Map<V>, b: &Map<V>) -> Result<MapDiff<V>, OutOfMemory> {
-        between_maps(alloc, a, b)
+        // The keys of both stand in order.
+        let _ = (a.len(), b.len());
+        let deletes = deletes_at(alloc, a, b, a)?;
+        let diffs = diffs_at(alloc, a, b, a)?;
+        let upserts = upserts_at(alloc, a, b, b)?;
+        Ok(MapDiff {
+            deletes: NameSet::from_map(deletes),
+            diffs,
+            upserts,
+        })
     }
 
     fn patch(alloc: Global, diff: &MapDiff<V>, value: Map<V>) -> Result<Map<V>, Unpatched<Map<V>>> {

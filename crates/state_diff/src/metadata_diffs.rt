@@ -1,12 +1,11 @@
 ghost use Rattle.std.specs.Prelude.{◌≡◌, IfOk};
 ghost use Rattle.state_diff.specs.MetadataDiffs.{metadata_between, metadata_patched};
 
-use crate::changes::change_between;
 use crate::diffables::{Copied, Diffable, Unpatched};
-use crate::map_diffs::{MapDiff, between_maps};
+use crate::map_diffs::MapDiff;
 use crate::patching::{or_unpatched, patch_pairs};
 use meta_state::{IndexMetadata, IndexTable, Metadata};
-use plain_data::{OutOfMemory, Text};
+use plain_data::{Map, OutOfMemory, Text};
 use std::alloc::Global;
 
 /// What leads from metadata to others: their version and the count of created indices where they differ, and the diffs
@@ -35,9 +34,9 @@ impl Diffable for Metadata {
     #[tactic(auto, using(crate::proofs::Records::metadata_leads))]
     fn between(alloc: Global, a: &Metadata, b: &Metadata) -> Result<MetadataDiff, OutOfMemory> {
         Ok(MetadataDiff {
-            version: change_between(alloc, &a.version, &b.version)?,
-            created: change_between(alloc, &a.created, &b.created)?,
-            settings: between_maps(alloc, &a.settings, &b.settings)?,
+            version: u64::between(alloc, &a.version, &b.version)?,
+            created: u64::between(alloc, &a.created, &b.created)?,
+            settings: Map::between(alloc, &a.settings, &b.settings)?,
             indices: IndexTable::between(alloc, &a.indices, &b.indices)?,
         })
     }

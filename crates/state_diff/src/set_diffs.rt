@@ -2,9 +2,9 @@ ghost use Rattle.std.specs.Prelude.{◌≡◌, IfOk};
 ghost use Rattle.state_diff.specs.SetDiffs.{names_between, names_patched, unit_between, unit_patched};
 
 use crate::diffables::{Copied, Diffable, Unpatched};
-use crate::map_diffs::{MapDiff, between_maps};
+use crate::map_diffs::MapDiff;
 use crate::patching::{or_unpatched, patch_pairs};
-use plain_data::{NameSet, OutOfMemory};
+use plain_data::{Map, NameSet, OutOfMemory};
 use std::alloc::Global;
 
 // What a set has at a name: there is nothing to tell apart.
@@ -46,7 +46,7 @@ impl Diffable for NameSet {
     ghost patched = { names_patched };
 
     fn between(alloc: Global, a: &NameSet, b: &NameSet) -> Result<MapDiff<()>, OutOfMemory> {
-        between_maps(alloc, a.as_map(), b.as_map())
+        Map::between(alloc, a.as_map(), b.as_map())
     }
 
     fn patch(

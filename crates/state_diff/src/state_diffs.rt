@@ -5,13 +5,12 @@ ghost use Rattle.state_diff.specs.MetadataDiffs.{settings_between, settings_patc
 ghost use Rattle.state_diff.specs.IndexDiffs.{indices_between, indices_patched};
 ghost use Rattle.state_diff.specs.StateDiffs.{nodes_between, nodes_patched, state_between, state_patched, applied, HasCause, apply_refusal_number};
 
-use crate::changes::change_between;
 use crate::diffables::{Copied, Diffable};
 use crate::index_diffs::between_indices_among;
-use crate::map_diffs::{MapDiff, between_maps, between_maps_among};
+use crate::map_diffs::{MapDiff, between_maps_among};
 use crate::patching::patch_pairs;
 use meta_state::{ClusterState, IndexMetadata, IndexTable, Metadata, NodeInfo, Touched};
-use plain_data::{OutOfMemory, Text};
+use plain_data::{Map, OutOfMemory, Text};
 use std::alloc::Global;
 use std::marker::Model;
 use thiserror::Error;
@@ -64,8 +63,8 @@ impl StateDiff {
         ensures made { IfOk result (λ made. made ≡ state_between a.now b.now) }
         ensures leads { IfOk result (λ made. applied made a.now ≡ Some b.now) }
     {
-        let nodes = between_maps(alloc, &a.nodes, &b.nodes)?;
-        let settings = between_maps(alloc, &a.metadata.settings, &b.metadata.settings)?;
+        let nodes = Map::between(alloc, &a.nodes, &b.nodes)?;
+        let settings = Map::between(alloc, &a.metadata.settings, &b.metadata.settings)?;
         let indices = IndexTable::between(alloc, &a.metadata.indices, &b.metadata.indices)?;
         of_maps(alloc, a, b, nodes, settings, indices)
     }
@@ -215,12 +214,12 @@ fn of_maps(
         from_id: a.id,
         to_id: b.id,
         to_version: b.version,
-        cluster: change_between(alloc, &a.cluster, &b.cluster)?,
-        term: change_between(alloc, &a.term, &b.term)?,
-        master: change_between(alloc, &a.master, &b.master)?,
+        cluster: Text::between(alloc, &a.cluster, &b.cluster)?,
+        term: u64::between(alloc, &a.term, &b.term)?,
+        master: Text::between(alloc, &a.master, &b.master)?,
         nodes,
-        metadata_version: change_between(alloc, &a.metadata.version, &b.metadata.version)?,
-        created: change_between(alloc, &a.metadata.created, &b.metadata.created)?,
+        metadata_version: u64::between(alloc, &a.metadata.version, &b.metadata.version)?,
+        created: u64::between(alloc, &a.metadata.created, &b.metadata.created)?,
         settings,
         indices,
     };

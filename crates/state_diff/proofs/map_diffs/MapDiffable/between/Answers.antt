@@ -1,7 +1,7 @@
 use Rattle.std.proofs.Common.{◌∙◌, ap}
 use Rattle.state_diff.specs.MapDiffs.{map_patched}
 use Rattle.state_diff.proofs.MapLaws.{whole_is, whole_leads}
-use Rattle.state_diff.proofs.map_diffs.between_maps.Goals as goal
+use Rattle.state_diff.proofs.map_diffs.MapDiffable.between.Goals as goal
 
 pub returns-clause-made : goal.returns-clause-made
 returns-clause-made g c =
