@@ -51,14 +51,15 @@ state_patched diff state = record {
   };
 }
 
--- what comes of a state: it is the one that the diff leads to, or the one that it leads from, or none of these
+-- what comes of a state that is the one that a diff leads to, or the one that it leads from; of any other nothing does
 abbrev pub applied : DiffParts → ClusterState → Option ClusterState
 applied diff state =
     if state.id == diff.to_id then Some state
     else if state.id == diff.from_id then Some (state_patched diff state)
     else None
 
--- why a diff wasn't applied: memory may be wanting to whoever could apply it, and all others are incompatible
+-- why a diff wasn't applied: the state is neither the one that it leads from nor the one that it leads to, or it is the
+-- former, and memory was wanting
 abbrev pub HasCause : DiffParts → ClusterState → ApplyRefusal → Type 0
 HasCause diff state (Incompatible has wants) = (applied diff state ≡ None) × ((has ≡ state.id) × (wants ≡ diff.from_id))
 HasCause diff state OutOfMemory = applied diff state ≡ Some (state_patched diff state)

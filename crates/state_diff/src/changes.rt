@@ -6,7 +6,7 @@ use meta_state::NodeInfo;
 use plain_data::{Exact, OutOfMemory, Text};
 use std::alloc::Global;
 
-/// A value whose diff is the new value, where the two differ.
+/// A value that is told whole: its diff is the new value, or none where the two are equal.
 pub trait Whole: Exact + Copied {}
 
 impl<T: Whole> Diffable for T {

@@ -3,9 +3,9 @@ ghost use Rattle.std.specs.Prelude.{◌≡◌, IfOk, IfErr};
 use plain_data::{Exact, OutOfMemory};
 use std::alloc::Global;
 
-/// A value of which there can be equal ones.
+/// A value of which an equal one can be made.
 pub trait Copied: Drop {
-    /// An equal value, which shares the maps of this one.
+    /// An equal value. It shares the maps of this one, so that its cost doesn't grow with them.
     fn copied(&self, alloc: Global) -> Result<Self, OutOfMemory>
         ensures { IfOk result (λ made. made ≡ self.now) };
 }
@@ -26,7 +26,8 @@ pub trait Diffable: Exact + Copied {
         // Patched onto `a` it is `b`.
         ensures leads { IfOk result (λ made. patched made a.now ≡ b.now) };
 
-    /// The value with the diff patched onto it. Want of memory hands the value back unchanged.
+    /// The value with the diff patched onto it, at a cost that grows with the diff and not with the value. Want of
+    /// memory hands the value back unchanged.
     fn patch(alloc: Global, diff: &Self::Diff, value: Self) -> Result<Self, Unpatched<Self>>
         ensures ok { IfOk result (λ made. made ≡ patched diff.now value) }
         ensures err { IfErr result (λ left. left.value ≡ value) };

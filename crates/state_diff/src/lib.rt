@@ -12,6 +12,7 @@ mod patching;
 mod set_diffs;
 mod state_diffs;
 
+pub use changes::Whole;
 pub use diffables::{Copied, Diffable, Unpatched};
 pub use index_diffs::IndexDiff;
 pub use map_diffs::MapDiff;
