@@ -8,17 +8,15 @@ use Rattle.std.specs.Cmp.Lexicographic.{slice_cmp}
 use Rattle.std.specs.BTreeMap.{is_at}
 use Rattle.std.specs.List.{AllByRecursion}
 use Rattle.std.specs.List.Sorted.{IsStrictlySortedBy}
-use Rattle.std.specs.Map.{keys_of}
 use Rattle.std.proofs.lemmas.Cmp.{nat_list_cmp_total, eq_by_cmp_equiv}
 use Rattle.std.proofs.lemmas.Map.{lookup-none}
 use Rattle.std.proofs.lemmas.Map.Entries.{none_past_head}
 use Rattle.std.proofs.lemmas.Map.Keys.{IsDistinct-from_sorted}
 use Rattle.plain_data.specs.Agreements.{AgreeOutside, with_all, read_off, merged}
-use Rattle.plain_data.specs.Pairs.{lookup, with, without, InOrder}
+use Rattle.plain_data.specs.Pairs.{lookup, without, InOrder}
 use Rattle.plain_data.proofs.Agreements.{same_from_lookups, none_from_with_all, lookup-with_all, in_order_with_all, with_all_of_none, in_order_read_off, lookup-read_off_all, merged_among, merged_over_first, merged_over_second}
 use Rattle.plain_data.proofs.At.{in_order_with, in_order_without}
 use Rattle.plain_data.proofs.Lookups.{is_key, same_from_key, key_flipped, lookup-with, lookup-without}
-use Rattle.state_diff.specs.declared.map_diffs.MapDiff.{MapDiff}
 use Rattle.state_diff.specs.MapDiffs.{only_first, only_second, both_differ, map_between, patched_option, put_at, patched_at, all_patched, without_all, map_patched, Lead, LeadAt}
 
 -- ---- what is found after a patch

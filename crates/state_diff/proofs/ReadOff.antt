@@ -1,5 +1,5 @@
 -- The steps by which the parts of a diff are noted, key by key.
-use Rattle.std.proofs.Common.{◌≡◌, ℕ, List, [], ◌∷◌, Some, None, Option, refl, sym, ◌∙◌, ap}
+use Rattle.std.proofs.Common.{◌≡◌, ℕ, List, Some, None, Option, refl, sym, ◌∙◌, ap}
 use Rattle.plain_data.specs.Agreements.{with_all, before}
 use Rattle.state_diff.specs.MapDiffs.{put_at}
 
