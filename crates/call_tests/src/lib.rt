@@ -8,8 +8,6 @@ mod indices;
 pub use indices::open_index;
 
 #[cfg(test)]
-mod diff_calls;
-#[cfg(test)]
 mod edge_calls;
 #[cfg(test)]
 mod executor_calls;
