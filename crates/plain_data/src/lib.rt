@@ -2,9 +2,9 @@
 //! the want of memory, and the law by which `==` decides equality.
 #![tactic(auto)]
 
-mod agreements;
 mod balancing;
 mod boxes;
+mod comparisons;
 mod laws;
 mod lists;
 mod maps;
@@ -16,8 +16,8 @@ mod shares;
 mod texts;
 mod trees;
 
-pub use agreements::is_same_among;
 pub use boxes::Boxed;
+pub use comparisons::is_same_among;
 pub use laws::{Exact, is_same};
 pub use lists::Items;
 pub use maps::Map;

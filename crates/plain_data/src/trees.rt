@@ -1,4 +1,4 @@
-ghost use Rattle.std.specs.Prelude.{◌≡◌, ◌≤◌, [], ◌∷◌, ◌++◌, length, IfOk, MatchOption};
+ghost use Rattle.std.specs.Prelude.{◌≡◌, ◌≤◌, ◌<◌, ◌^◌, [], ◌∷◌, ◌++◌, length, IfOk, MatchOption};
 ghost use Rattle.std.specs.Option.{option_copied};
 ghost use Rattle.plain_data.specs.Pairs.{lookup, with, without, InOrder};
 
@@ -96,6 +96,8 @@ impl<V> Tree<V> {
         ensures most { result ≤ length self.now }
         ensures least { length self.now < 2 ^ result }
     {
+        // All pairs can be counted, so that how deep they stand can.
+        let _ = self.len();
         match self.node() {
             None => 0,
             Some(node) => node.left.depth().max(node.right.depth()).saturating_add(1),
