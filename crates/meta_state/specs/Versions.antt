@@ -1,6 +1,7 @@
 -- The version rule: only the master raises versions, and a state whose contents didn't change isn't published
 -- (Elasticsearch's `MasterService`). That "changed" means that contents differ is this project's own.
-use Rattle.std.specs.Prelude.{ℕ, ◌+◌, if◌then◌else◌}
+use Rattle.std.specs.Prelude.{ℕ, ◌+◌, ◌==◌, ◌&&◌, Bool, if◌then◌else◌}
+use Rattle.std.specs.Cmp.Lexicographic.{pointwise}
 use Rattle.meta_state.specs.declared.cluster_metadata.Metadata.{Metadata}
 use Rattle.meta_state.specs.declared.cluster_state.ClusterState.{ClusterState}
 use Rattle.meta_state.specs.declared.versions.Next.{Next}
@@ -14,6 +15,11 @@ contents_of m = record m { version = 0 }
 -- a state but for its identifier, version and metadata version
 abbrev pub content_of : ClusterState → ClusterState
 content_of s = record s { id = 0; version = 0; metadata = contents_of s.metadata }
+
+-- whether two states have the same names of cluster and master, and the same term: all of their content but nodes and
+-- metadata
+abbrev pub rest_eq : ClusterState → ClusterState → Bool
+rest_eq a b = pointwise ◌==◌ a.cluster b.cluster && ((a.term == b.term) && pointwise ◌==◌ a.master b.master)
 
 -- the metadata version after a change: it rises where the metadata differ
 abbrev pub metadata_version : Metadata → Metadata → ℕ

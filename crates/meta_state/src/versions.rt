@@ -1,11 +1,10 @@
-ghost use Rattle.std.specs.Prelude.{◌≡◌, ◌==◌, ◌&&◌};
-ghost use Rattle.std.specs.Cmp.Lexicographic.{pointwise};
+ghost use Rattle.std.specs.Prelude.{◌≡◌};
 ghost use Rattle.plain_data.specs.Agreements as maps;
 ghost use Rattle.plain_data.specs.Pairs.{pairs_eq};
 ghost use Rattle.meta_state.specs.Exact.{metadata_eq, node_eq};
 ghost use Rattle.meta_state.specs.States.{IsRoomy};
 ghost use Rattle.meta_state.specs.Touches.{AgreeOutside};
-ghost use Rattle.meta_state.specs.Versions.{next_of, contents_of};
+ghost use Rattle.meta_state.specs.Versions.{next_of, contents_of, rest_eq};
 
 use crate::cluster_metadata::Metadata;
 use crate::cluster_state::ClusterState;
@@ -35,14 +34,9 @@ pub fn next_state(prev: &ClusterState, made: ClusterState, id: u64) -> Next
     next_by(prev, made, id, same_metadata, same_nodes)
 }
 
-/// The same where it is known outside of which names the two states agree: only those are compared, so that it costs
-/// what may have changed, and not what there is.
-pub fn next_state_among(
-    prev: &ClusterState,
-    made: ClusterState,
-    id: u64,
-    touched: &Touched,
-) -> Next
+/// The same where the two states are known to agree outside of what `touched` names: beside their numbers and their
+/// own names only that is compared, so that it costs what may have changed, and not what there is.
+pub fn next_state_among(prev: &ClusterState, made: ClusterState, id: u64, touched: &Touched) -> Next
     requires roomy { IsRoomy prev.now }
     requires agree { AgreeOutside touched.now prev.now made }
     ensures { result ≡ next_of prev.now made id }
@@ -82,7 +76,7 @@ fn next_by(
 
 /// Whether the names and the term of two states are the same.
 fn is_rest_same(a: &ClusterState, b: &ClusterState) -> bool
-    ensures { result ≡ (pointwise ◌==◌ a.now.cluster b.now.cluster && ((a.now.term == b.now.term) && pointwise ◌==◌ a.now.master b.now.master)) }
+    ensures { result ≡ rest_eq a.now b.now }
 {
     a.cluster == b.cluster && a.term == b.term && a.master == b.master
 }
@@ -94,7 +88,7 @@ fn are_contents_same(a: &Metadata, b: &Metadata) -> bool
     a.created == b.created && a.settings == b.settings && a.indices == b.indices
 }
 
-/// The same where it is known outside of which names the two agree.
+/// The same where the two are known to agree outside of what `touched` names.
 fn are_contents_same_among(a: &Metadata, b: &Metadata, touched: &Touched) -> bool
     requires settings { maps.AgreeOutside touched.now.settings a.now.settings b.now.settings }
     requires indices { maps.AgreeOutside touched.now.indices a.now.indices b.now.indices }

@@ -1,20 +1,22 @@
 -- Maps that agree outside of some names, and what is read off at keys: that it doesn't depend on which keys one goes over,
 -- as long as each at which something is found is among them. So what a walk over two whole maps tells is told by a walk
 -- over the few keys at which they may differ.
-use Rattle.std.proofs.Common.{◌≡◌, ℕ, Bool, true, false, cond, List, [], ◌∷◌, Some, None, Option, refl, sym, ◌∙◌, ap}
+use Rattle.std.proofs.Common.{◌≡◌, ℕ, Bool, true, false, cond, List, [], ◌∷◌, Some, None, Option, refl, sym, ◌∙◌, ap, subst}
 use Rattle.std.specs.declared.cmp.Ordering.TheVariants.{Less}
 use Rattle.std.specs.Ordering.{nat_cmp, is_eq}
+use Rattle.std.specs.Bool.{Decides}
 use Rattle.std.specs.Option.{is_some, option_or}
 use Rattle.std.specs.Cmp.Lexicographic.{slice_cmp}
 use Rattle.std.specs.BTreeMap.{is_at}
 use Rattle.std.specs.List.{AllByRecursion, filter}
 use Rattle.std.specs.List.Sorted.{IsStrictlySortedBy}
 use Rattle.std.specs.Map.{keys_of}
+use Rattle.std.proofs.lemmas.Bool.{false_from_ne_true}
 use Rattle.std.proofs.lemmas.Cmp.{nat_list_cmp_total, eq_by_cmp_equiv}
 use Rattle.std.proofs.lemmas.Map.{lookup-none}
 use Rattle.std.proofs.lemmas.Map.Entries.{option_filter, none_past_head}
 use Rattle.std.proofs.lemmas.Map.Keys.{IsDistinct-from_sorted}
-use Rattle.plain_data.specs.Pairs.{lookup, with, InOrder}
+use Rattle.plain_data.specs.Pairs.{lookup, with, InOrder, pairs_eq, pairs_decides}
 use Rattle.plain_data.specs.Agreements.{AgreeOutside, with_all, before, read_off, merged}
 use Rattle.plain_data.proofs.At.{in_order_empty, in_order_with}
 use Rattle.plain_data.proofs.Lookups.{is_key, same_from_key, key_flipped, lookup-with, same_keys}
@@ -125,6 +127,27 @@ module _ {V : Type 0} where
     agree_outside_both others m n p a b q h =
         let none : (lookup q others ≡ None) × (lookup q names ≡ None) = none_from_with_all q others names h in
         a q none.1 ∙ b q none.0
+
+  -- ---- what look-ups at the names tell of equality
+
+  not_at_key : (q : List ℕ) (name : List ℕ) (names : List (List ℕ × Unit {0})) (m n : List (List ℕ × V)) (b : Bool) → is_key q name ≡ b → lookup name m ≡ lookup name n
+      → (cond b (Some tt) (lookup q names) ≡ None → lookup q m ≡ lookup q n) → lookup q names ≡ None → lookup q m ≡ lookup q n
+  not_at_key q name names m n true e same agree none =
+      let key : q ≡ name = same_from_key q name e in
+      ap (λ (x : List ℕ). lookup x m) key ∙ same ∙ ap (λ (x : List ℕ). lookup x n) (sym key)
+  not_at_key q name names m n false e same agree none = agree none
+
+  -- a name with the same look-ups is one less to go
+  pub agree_behind : (left : List (List ℕ × Unit {0})) (name : List ℕ) (names : List (List ℕ × Unit {0})) (m n : List (List ℕ × V)) → left ≡ (name, tt) ∷ names → lookup name m ≡ lookup name n → AgreeOutside left m n → AgreeOutside names m n
+  agree_behind left name names m n is same agree q none =
+      not_at_key q name names m n (is_key q name) refl same (λ here. agree q (ap (lookup q) is ∙ here)) none
+
+  module _ (E : V → V → Bool) (decides : (v w : V) → Decides (E v w) (v ≡ w)) (m n : List (List ℕ × V)) where
+    pub equal_from_agreement : InOrder m → InOrder n → (left : List (List ℕ × Unit {0})) → left ≡ [] → AgreeOutside left m n → true ≡ pairs_eq E m n
+    equal_from_agreement s t left is agree = sym ((pairs_decides decides m n).1 (all_agree m n s t (subst (λ (x : List (List ℕ × Unit {0})). AgreeOutside x m n) is agree)))
+
+    pub differ_from_lookups : (q : List ℕ) → (lookup q m ≡ lookup q n → ⊥) → false ≡ pairs_eq E m n
+    differ_from_lookups q other = sym (false_from_ne_true (pairs_eq E m n) (λ e. other (ap (lookup q) ((pairs_decides decides m n).0 e))))
 
 -- ---- what is read off
 
