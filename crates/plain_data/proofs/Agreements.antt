@@ -16,10 +16,10 @@ use Rattle.std.proofs.lemmas.Cmp.{nat_list_cmp_total, eq_by_cmp_equiv}
 use Rattle.std.proofs.lemmas.Map.{lookup-none}
 use Rattle.std.proofs.lemmas.Map.Entries.{option_filter, none_past_head}
 use Rattle.std.proofs.lemmas.Map.Keys.{IsDistinct-from_sorted}
-use Rattle.plain_data.specs.Pairs.{lookup, with, InOrder, pairs_eq, pairs_decides}
+use Rattle.plain_data.specs.Pairs.{lookup, with, without, InOrder, pairs_eq, pairs_decides}
 use Rattle.plain_data.specs.Agreements.{AgreeOutside, with_all, before, read_off, merged}
 use Rattle.plain_data.proofs.At.{in_order_empty, in_order_with}
-use Rattle.plain_data.proofs.Lookups.{is_key, same_from_key, key_flipped, lookup-with, same_keys}
+use Rattle.plain_data.proofs.Lookups.{is_key, same_from_key, key_flipped, lookup-with, lookup-without_other, same_keys}
 
 -- a key is found where it stands, and then nowhere behind it
 itself : (q : List ℕ) → is_key q q ≡ true
@@ -104,6 +104,10 @@ module _ {V : Type 0} where
 
 -- ---- agreement
 
+none_but : (b : Bool) (o : Option (Unit {0})) → cond b (Some tt) o ≡ None → (b ≡ false) × (o ≡ None)
+none_but true o h = absurd cc
+none_but false o h = (refl, h)
+
 module _ {V : Type 0} where
   pub all_agree : (m n : List (List ℕ × V)) → InOrder m → InOrder n → AgreeOutside [] m n → m ≡ n
   all_agree m n s t h = same_from_lookups m n s t (λ q. h q refl)
@@ -127,6 +131,22 @@ module _ {V : Type 0} where
     agree_outside_both others m n p a b q h =
         let none : (lookup q others ≡ None) × (lookup q names ≡ None) = none_from_with_all q others names h in
         a q none.1 ∙ b q none.0
+
+  -- ---- a change, whose key joins the names
+
+  module _ (names : List (List ℕ × Unit {0})) (key : List ℕ) (m n : List (List ℕ × V)) (agree : AgreeOutside names m n) where
+    other_name : (q : List ℕ) → lookup q (with key tt names) ≡ None → (is_key key q ≡ false) × (lookup q names ≡ None)
+    other_name q none = none_but (is_key key q) (lookup q names) (sym (lookup-with key tt q names) ∙ none)
+
+    pub agree_with : (value : V) → AgreeOutside (with key tt names) m (with key value n)
+    agree_with value q none =
+        let other : (is_key key q ≡ false) × (lookup q names ≡ None) = other_name q none in
+        agree q other.1 ∙ sym (lookup-with key value q n ∙ ap (λ (b : Bool). cond b (Some value) (lookup q n)) other.0)
+
+    pub agree_without : AgreeOutside (with key tt names) m (without key n)
+    agree_without q none =
+        let other : (is_key key q ≡ false) × (lookup q names ≡ None) = other_name q none in
+        agree q other.1 ∙ sym (lookup-without_other key q n other.0)
 
   -- ---- what look-ups at the names tell of equality
 
