@@ -1,0 +1,4 @@
+-- What the contracts of this crate cite.
+pub mod InMemory
+pub mod LinkMeanings
+pub mod Messages

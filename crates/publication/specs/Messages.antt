@@ -1,0 +1,42 @@
+-- Messages to a node, and what a node makes of them: the state that it holds then, and its receipt. A diff is accepted
+-- where it was made from the state that is held, or leads to it (Elasticsearch's `PublicationTransportHandler`).
+use Rattle.std.specs.Prelude.{◌≡◌, ℕ, Bool, true, false, Result, Ok, Err}
+use Rattle.meta_state.specs.declared.cluster_state.ClusterState.{ClusterState}
+use Rattle.state_diff.specs.declared.applying.ApplyRefusal.{ApplyRefusal}
+use Rattle.state_diff.specs.declared.applying.ApplyRefusal.TheVariants as refusals
+use Rattle.state_diff.specs.Applies.{applied}
+use Rattle.publication.specs.declared.messages.Message.{Message}
+use Rattle.publication.specs.declared.messages.Message.TheVariants.{Full, Diff}
+use Rattle.publication.specs.declared.messages.MessageKind.{MessageKind}
+use Rattle.publication.specs.declared.messages.MessageKind.TheVariants as kinds
+use Rattle.publication.specs.declared.receipts.Receipt.{Receipt}
+use Rattle.publication.specs.declared.receipts.Receipt.TheVariants.{Accepted, Incompatible}
+
+-- the identifier of the state that a message leads to
+abbrev pub target_id : Message → ℕ
+target_id (Full state) = state.id
+target_id (Diff diff) = diff.to.id
+
+abbrev pub kind_of : Message → MessageKind
+kind_of (Full _) = kinds.Full
+kind_of (Diff _) = kinds.Diff
+
+-- what comes of a diff: where it can't be applied, what is held stays
+abbrev pub received_diff : ClusterState → Result ClusterState ApplyRefusal → Receipt × ClusterState
+received_diff held (Ok made) = (Accepted, made)
+received_diff held (Err (refusals.Incompatible has wants)) = (Incompatible has wants, held)
+received_diff held (Err refusals.OutOfMemory) = (Accepted, held)
+
+-- the receipt of a message, and what is held then
+abbrev pub received : ClusterState → Message → Receipt × ClusterState
+received held (Full state) = (Accepted, state)
+received held (Diff diff) = received_diff held (applied diff held)
+
+abbrev pub is_accepted : Receipt → Bool
+is_accepted Accepted = true
+is_accepted (Incompatible _ _) = false
+
+-- what was accepted is the message's state
+abbrev pub AcceptsTarget : Receipt → ClusterState → Message → Type 0
+AcceptsTarget Accepted held message = held.id ≡ target_id message
+AcceptsTarget (Incompatible _ _) held message = Unit {0}
