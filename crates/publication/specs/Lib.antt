@@ -2,3 +2,5 @@
 pub mod InMemory
 pub mod LinkMeanings
 pub mod Messages
+pub mod Publications
+pub mod Receptions

@@ -1,10 +1,9 @@
 -- Messages to a node, and what a node makes of them: the state that it holds then, and its receipt. A diff is accepted
 -- where it was made from the state that is held, or leads to it (Elasticsearch's `PublicationTransportHandler`).
-use Rattle.std.specs.Prelude.{◌≡◌, ℕ, Bool, true, false, Result, Ok, Err}
+use Rattle.std.specs.Prelude.{◌≡◌, ℕ, Bool, true, false, Option, Some, None}
 use Rattle.meta_state.specs.declared.cluster_state.ClusterState.{ClusterState}
-use Rattle.state_diff.specs.declared.applying.ApplyRefusal.{ApplyRefusal}
-use Rattle.state_diff.specs.declared.applying.ApplyRefusal.TheVariants as refusals
-use Rattle.state_diff.specs.Applies.{applied}
+use Rattle.state_diff.specs.declared.state_diffs.DiffParts.{DiffParts}
+use Rattle.state_diff.specs.StateDiffs.{applied}
 use Rattle.publication.specs.declared.messages.Message.{Message}
 use Rattle.publication.specs.declared.messages.Message.TheVariants.{Full, Diff}
 use Rattle.publication.specs.declared.messages.MessageKind.{MessageKind}
@@ -15,22 +14,21 @@ use Rattle.publication.specs.declared.receipts.Receipt.TheVariants.{Accepted, In
 -- the identifier of the state that a message leads to
 abbrev pub target_id : Message → ℕ
 target_id (Full state) = state.id
-target_id (Diff diff) = diff.to.id
+target_id (Diff diff) = diff.to_id
 
 abbrev pub kind_of : Message → MessageKind
 kind_of (Full _) = kinds.Full
 kind_of (Diff _) = kinds.Diff
 
--- what comes of a diff: where it can't be applied, what is held stays
-abbrev pub received_diff : ClusterState → Result ClusterState ApplyRefusal → Receipt × ClusterState
-received_diff held (Ok made) = (Accepted, made)
-received_diff held (Err (refusals.Incompatible has wants)) = (Incompatible has wants, held)
-received_diff held (Err refusals.OutOfMemory) = (Accepted, held)
+-- what comes of a diff that makes this of what is held: where it makes nothing, what is held stays
+abbrev pub received_diff : DiffParts → ClusterState → Option ClusterState → Receipt × ClusterState
+received_diff diff held None = (Incompatible held.id diff.from_id, held)
+received_diff diff held (Some made) = (Accepted, made)
 
 -- the receipt of a message, and what is held then
 abbrev pub received : ClusterState → Message → Receipt × ClusterState
 received held (Full state) = (Accepted, state)
-received held (Diff diff) = received_diff held (applied diff held)
+received held (Diff diff) = received_diff diff held (applied diff held)
 
 abbrev pub is_accepted : Receipt → Bool
 is_accepted Accepted = true
