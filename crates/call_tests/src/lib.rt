@@ -8,6 +8,8 @@ mod indices;
 pub use indices::open_index;
 
 #[cfg(test)]
+mod diff_calls;
+#[cfg(test)]
 mod edge_calls;
 #[cfg(test)]
 mod executor_calls;

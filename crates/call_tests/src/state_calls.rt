@@ -102,7 +102,7 @@ pub(crate) fn put_node(
     state.nodes.set(name, node)
 }
 
-fn put_setting(
+pub(crate) fn put_setting(
     alloc: Global,
     state: &mut ClusterState,
     key: &str,

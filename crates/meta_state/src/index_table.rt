@@ -89,6 +89,13 @@ impl IndexTable {
         self.by_name.iter()
     }
 
+    /// The indices as a map.
+    pub fn by_name(&self) -> &Map<IndexMetadata>
+        ensures { result.now ≡ self.now }
+    {
+        &self.by_name
+    }
+
     /// Whether two tables that agree outside of some names are equal, which costs a look-up in each at each of these
     /// names.
     pub fn is_same_among(&self, other: &IndexTable, names: &NameSet) -> bool

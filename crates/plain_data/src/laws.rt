@@ -1,5 +1,6 @@
 ghost use Rattle.std.specs.Prelude.{◌≡◌, ◌↔◌, IsTrue};
 ghost use Rattle.std.specs.Bool.{Decides};
+ghost use Rattle.std.specs.Cmp.{booleans_Decides, unsigned_Decides};
 ghost use Rattle.std.specs.Cmp.Lexicographic.{bytes_decides, pointwise_decides};
 ghost use Rattle.plain_data.specs.Pairs.{pairs_decides, unit_decides};
 
@@ -18,6 +19,18 @@ pub fn is_same<T: Exact>(a: &T, b: &T) -> bool
     ensures { IsTrue result ↔ (a.now ≡ b.now) }
 {
     a == b
+}
+
+impl Exact for () {
+    ghost exact = { unit_decides };
+}
+
+impl Exact for bool {
+    ghost exact = { booleans_Decides };
+}
+
+impl Exact for u64 {
+    ghost exact = { unsigned_Decides };
 }
 
 impl Exact for Text {

@@ -40,6 +40,20 @@ impl NameSet {
         }
     }
 
+    /// The set that a map has for its keys.
+    pub fn from_map(names: Map<()>) -> NameSet
+        ensures { result ≡ names }
+    {
+        NameSet { names }
+    }
+
+    /// The set as a map.
+    pub fn as_map(&self) -> &Map<()>
+        ensures { result.now ≡ self.now }
+    {
+        &self.names
+    }
+
     pub fn contains(&self, name: &Text) -> bool
         ensures { result ≡ is_some (lookup name.now self.now) }
     {

@@ -1,0 +1,3 @@
+mod MapLaws
+mod ReadOff
+mod Records

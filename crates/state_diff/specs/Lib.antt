@@ -1,0 +1,6 @@
+pub mod Changes
+pub mod IndexDiffs
+pub mod MapDiffs
+pub mod MetadataDiffs
+pub mod SetDiffs
+pub mod StateDiffs
