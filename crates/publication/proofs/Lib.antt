@@ -6,3 +6,4 @@ pub mod Hands
 pub mod Progress
 pub mod Published
 pub mod Sends
+pub mod Targets

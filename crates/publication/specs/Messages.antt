@@ -25,10 +25,14 @@ abbrev pub received_diff : DiffParts → ClusterState → Option ClusterState �
 received_diff diff held None = (Incompatible held.id diff.from_id, held)
 received_diff diff held (Some made) = (Accepted, made)
 
+-- what a diff makes of what is held, where it can be applied
+unfoldable pub made_of : DiffParts → ClusterState → Option ClusterState
+made_of diff held = applied diff held
+
 -- the receipt of a message, and what is held then
-abbrev pub received : ClusterState → Message → Receipt × ClusterState
+unfoldable pub received : ClusterState → Message → Receipt × ClusterState
 received held (Full state) = (Accepted, state)
-received held (Diff diff) = received_diff diff held (applied diff held)
+received held (Diff diff) = received_diff diff held (made_of diff held)
 
 abbrev pub is_accepted : Receipt → Bool
 is_accepted Accepted = true

@@ -6,7 +6,6 @@ use Rattle.meta_state.specs.declared.cluster_state.ClusterState.{ClusterState}
 use Rattle.publication.specs.declared.deliveries.Delivery.{Delivery}
 use Rattle.publication.specs.declared.deliveries.Delivery.TheVariants as deliveries
 use Rattle.publication.specs.declared.messages.Message.{Message}
-use Rattle.publication.specs.declared.messages.Message.TheVariants.{Full}
 use Rattle.publication.specs.declared.sending.Messages.{Messages}
 use Rattle.publication.specs.declared.receipts.Receipt.{Receipt}
 use Rattle.publication.specs.declared.receipts.Receipt.TheVariants as receipts
@@ -47,7 +46,7 @@ taken_by prev new held = if held.id == prev.id then (receipts.Accepted, new) els
 
 -- the messages of a publication: both lead to the new state, the diff from the state before
 pub record Lead (prev new : ClusterState) (messages : Messages) : Type 0 where
-  pub full : messages.full ≡ Full new
+  pub full : (held : ClusterState) → received held messages.full ≡ (receipts.Accepted, new)
   pub diff : (held : ClusterState) → held.id ≢ new.id → (held.id ≡ prev.id → held ≡ prev) → received held messages.diff ≡ taken_by prev new held
 
 -- how a node took a publication, by its link as it was and is
@@ -62,6 +61,12 @@ abbrev pub Delivers : Message → Delivery → LinkMeaning → LinkMeaning → T
 Delivers message deliveries.Taken old now = ((received old.held message).0 ≡ receipts.Accepted) × (now ≡ record old { held = (received old.held message).1; ready = true; faults = now.faults }) × (old.faults ≤ now.faults)
 Delivers message deliveries.Refused old now = ((received old.held message).0 ≢ receipts.Accepted) × (now ≡ after_fault old now.faults) × (old.faults ≤ now.faults)
 Delivers message deliveries.Unreached old now = Rose old.faults now.faults × (now ≡ after_fault old now.faults) × (old.faults ≤ now.faults)
+
+-- a link after the whole state of a publication
+abbrev pub DeliversFull : ClusterState → Delivery → LinkMeaning → LinkMeaning → Type 0
+DeliversFull new deliveries.Taken old now = (now ≡ record old { held = new; ready = true; faults = now.faults }) × (old.faults ≤ now.faults)
+DeliversFull new deliveries.Refused old now = ⊥
+DeliversFull new deliveries.Unreached old now = Rose old.faults now.faults × (now ≡ after_fault old now.faults) × (old.faults ≤ now.faults)
 
 -- a link after the diff of a publication
 abbrev pub DeliversDiff : ClusterState → ClusterState → Delivery → LinkMeaning → LinkMeaning → Type 0

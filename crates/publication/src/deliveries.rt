@@ -1,7 +1,7 @@
 ghost use Rattle.std.specs.Prelude.{IfOk, OnErr};
 ghost use Rattle.publication.specs.Publications.{CanPublishTo};
 ghost use Rattle.publication.specs.LinkMeanings.{HoldsOldOrSent};
-ghost use Rattle.publication.specs.Receptions.{Delivers, DeliversDiff, HoldsOldOrNew, Lead};
+ghost use Rattle.publication.specs.Receptions.{Delivers, DeliversDiff, DeliversFull, HoldsOldOrNew, Lead};
 
 use crate::link_faults::LinkFault;
 use crate::links::Link;
@@ -50,4 +50,19 @@ pub(crate) fn deliver_diff<L: Link>(
     ensures err { OnErr result (HoldsOldOrNew new.now (L.meaning link.old) (L.meaning link.new)) }
 {
     deliver(&messages.diff, link)
+}
+
+/// Sends the whole state of a publication.
+#[tactic(auto, using(crate::proofs::Diffs::full_delivers, crate::proofs::Diffs::full_stays))]
+pub(crate) fn deliver_full<L: Link>(
+    prev: &ClusterState,
+    new: &ClusterState,
+    messages: &Messages,
+    link: &mut L,
+) -> Result<Delivery, OutOfMemory>
+    requires lead { Lead prev.now new.now messages.now }
+    ensures ok { IfOk result (λ delivery. DeliversFull new.now delivery (L.meaning link.old) (L.meaning link.new)) }
+    ensures err { OnErr result (HoldsOldOrNew new.now (L.meaning link.old) (L.meaning link.new)) }
+{
+    deliver(&messages.full, link)
 }

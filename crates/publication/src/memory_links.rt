@@ -156,9 +156,12 @@ impl Link for MemLink {
         }
         self.kinds.push(message.kind())?;
         let receipt = self.replica.receive(self.alloc, message)?;
-        if receipt == Receipt::Accepted {
-            self.waiting = None;
-            self.waiting = Some(self.replica.state().copy(self.alloc)?);
+        match receipt {
+            Receipt::Incompatible { .. } => {}
+            Receipt::Accepted => {
+                self.waiting = None;
+                self.waiting = Some(self.replica.state().copy(self.alloc)?);
+            }
         }
         Ok(receipt)
     }

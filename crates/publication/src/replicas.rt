@@ -1,8 +1,11 @@
+ghost use Rattle.std.specs.Prelude.{◌≡◌, IfOk, IfSome};
+ghost use Rattle.publication.specs.Messages.{made_of};
+
 use crate::messages::Message;
 use crate::receipts::Receipt;
 use meta_state::ClusterState;
 use plain_data::OutOfMemory;
-use state_diff::ApplyRefusal;
+use state_diff::{ApplyRefusal, StateDiff};
 use std::alloc::Global;
 use std::marker::Model;
 
@@ -21,8 +24,8 @@ impl Model for Replica {
 }
 
 impl Replica {
-    ghost use Rattle.std.specs.Prelude.{◌≡◌, IfOk, OnErr};
-    ghost use Rattle.publication.specs.Messages.{received, AcceptsTarget};
+    ghost use Rattle.std.specs.Prelude.{false, OnErr};
+    ghost use Rattle.publication.specs.Messages.{is_accepted, received, AcceptsTarget};
 
     /// A replica that holds this state.
     pub fn new(state: ClusterState) -> Replica
@@ -40,8 +43,12 @@ impl Replica {
 
     /// Takes a message. A whole state is accepted; a diff is accepted where it was made from the state that is held, or
     /// leads to it. A refused diff and want of memory leave what is held as it was.
+    #[tactic(auto, unfolding(crate::specs::Messages::received))]
     pub fn receive(&mut self, alloc: Global, message: &Message) -> Result<Receipt, OutOfMemory>
         ensures receipt { IfOk result (λ receipt. (receipt, self.new) ≡ received self.old message.now) }
+
+        // A refused diff leaves what is held as it was.
+        ensures refused { IfOk result (λ receipt. is_accepted receipt ≡ false → self.new ≡ self.old) }
 
         // What is accepted is the message's state.
         ensures leads { IfOk result (λ receipt. AcceptsTarget receipt self.new message.now) }
@@ -52,19 +59,35 @@ impl Replica {
                 self.state = state.copy(alloc)?;
                 Ok(Receipt::Accepted)
             }
-            Message::Diff(diff) => match diff.apply(alloc, self.state.copy(alloc)?) {
-                Ok(state) => {
+            Message::Diff(diff) => match apply_to(alloc, diff, &self.state)? {
+                Some(state) => {
                     self.state = state;
                     Ok(Receipt::Accepted)
                 }
-                Err(fault) => match fault.why {
-                    ApplyRefusal::OutOfMemory => Err(OutOfMemory),
-                    ApplyRefusal::Incompatible { has, wants } => Ok(Receipt::Incompatible {
-                        has,
-                        wants,
-                    }),
-                },
+                None => Ok(Receipt::Incompatible {
+                    has: self.state.id,
+                    wants: diff.from_id(),
+                }),
             },
         }
+    }
+}
+
+/// What a diff makes of a state, where it can be applied to it.
+#[tactic(auto, using(crate::proofs::Targets::target_of), unfolding(crate::specs::Messages::made_of))]
+fn apply_to(
+    alloc: Global,
+    diff: &StateDiff,
+    state: &ClusterState,
+) -> Result<Option<ClusterState>, OutOfMemory>
+    ensures made { IfOk result (λ made. made ≡ made_of diff.now state.now) }
+    ensures leads { IfOk result (λ made. IfSome made (λ state. state.id ≡ diff.now.to_id)) }
+{
+    match diff.apply(alloc, state.copy(alloc)?) {
+        Ok(made) => Ok(Some(made)),
+        Err(fault) => match fault.why {
+            ApplyRefusal::OutOfMemory => Err(OutOfMemory),
+            ApplyRefusal::Incompatible { .. } => Ok(None),
+        },
     }
 }

@@ -4,7 +4,7 @@ ghost use Rattle.plain_data.specs.Pairs.{lookup};
 ghost use Rattle.publication.specs.Publications.{CanPublishTo, is_eligible};
 ghost use Rattle.publication.specs.Receptions.{HoldsOldOrNew, Lead, SentTo, reception_of};
 
-use crate::deliveries::{Delivery, deliver, deliver_diff};
+use crate::deliveries::{Delivery, deliver_diff, deliver_full};
 use crate::links::Link;
 use crate::messages::Message;
 use crate::receptions::Reception;
@@ -72,7 +72,7 @@ fn send_to<L: Link>(
             Delivery::Refused => {}
         }
     }
-    match deliver(&messages.full, link)? {
+    match deliver_full(prev, new, messages, link)? {
         Delivery::Taken => Ok(Reception::Accepted {
             by_diff: false,
             votes,
