@@ -1,11 +1,10 @@
 -- What a publication answers, by what is noted of each link.
-use Rattle.std.specs.Prelude.{◌≡◌, ℕ, ◌+◌, Bool, true, false, not, ◌&&◌, ◌||◌, ◌==◌, List, [], ◌∷◌, count_by, filter, is_some, length, map, bytes_eq, nat_lt, refl, if◌then◌else◌}
-use Rattle.std.specs.List.{list_any, zip}
+use Rattle.std.specs.Prelude.{◌≡◌, ℕ, ◌+◌, Bool, true, false, not, ◌&&◌, ◌||◌, ◌==◌, List, [], ◌∷◌, count_by, filter, map, bytes_eq, nat_lt, refl, if◌then◌else◌}
+use Rattle.std.specs.List.{list_any}
 use Rattle.std.proofs.Common.{sym, ap, ◌∙◌, cond, arith}
 use Rattle.std.proofs.lemmas.List.Sums.{sum_by-cons}
 use Rattle.plain_data.specs.Pairs.{lookup}
 use Rattle.meta_state.specs.declared.cluster_state.ClusterState.{ClusterState}
-use Rattle.publication.specs.declared.publications.Publication.{Publication}
 use Rattle.publication.specs.declared.publications.Publication.TheVariants.{Committed, NotCommitted}
 use Rattle.publication.specs.declared.receptions.Reception.{Reception}
 use Rattle.publication.specs.declared.receptions.Reception.TheVariants.{NotSent, Missed, Accepted}

@@ -1,5 +1,5 @@
 -- What comes of the diff of a publication, and of it at one link.
-use Rattle.std.specs.Prelude.{◌≡◌, ◌≢◌, Bool, true, false, ◌==◌, ◌||◌, ◌≤◌, ℕ, refl, Option, Some, None, if◌then◌else◌, ◌⊎◌}
+use Rattle.std.specs.Prelude.{◌≡◌, ◌≢◌, Bool, true, false, ◌==◌, ◌||◌, ◌≤◌, ℕ, refl, Option, Some, None, if◌then◌else◌}
 use Rattle.std.proofs.Common.{sym, ap, ◌∙◌, arith, inl, inr, ⊎_elim}
 use Rattle.std.proofs.lemmas.Bool.Decides.{nat_tests}
 use Rattle.meta_state.specs.declared.cluster_state.ClusterState.{ClusterState}
@@ -15,7 +15,7 @@ use Rattle.publication.specs.declared.sending.Messages.{Messages}
 use Rattle.publication.specs.LinkMeanings.{HoldsOldOrSent, LinkMeaning, after_message}
 use Rattle.publication.specs.Messages.{is_accepted, made_of, received, received_diff}
 use Rattle.publication.specs.Publications.{CanPublishTo}
-use Rattle.publication.specs.Receptions.{Delivers, DeliversDiff, DeliversFull, HoldsOldOrNew, Lead, taken_by}
+use Rattle.publication.specs.Receptions.{Delivers, DeliversDiff, DeliversFull, HoldsOldOrNew, Lead}
 
 -- ---- the diff
 

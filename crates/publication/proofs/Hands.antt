@@ -1,15 +1,14 @@
 -- The links of a publication after its commit was handed: what is noted of each, and that what they hold stays.
-use Rattle.std.specs.Prelude.{◌≡◌, ℕ, ◌<◌, Bool, true, false, not, List, [], ◌∷◌, length, map, refl, IsTrue}
-use Rattle.std.specs.List.{AllByRecursion, AllZip, zip}
-use Rattle.std.proofs.Common.{sym, ap, ◌∙◌, subst, arith, get_or}
+use Rattle.std.specs.Prelude.{◌≡◌, ℕ, ◌<◌, Bool, true, false, not, List, [], ◌∷◌, length, map, refl}
+use Rattle.std.specs.List.{zip}
+use Rattle.std.proofs.Common.{sym, ap, ◌∙◌, arith, get_or}
 use Rattle.std.proofs.lemmas.List.{get_or_default}
 use Rattle.std.proofs.lemmas.Slice.Zip.{get_or-zip}
-use Rattle.meta_state.specs.declared.cluster_state.ClusterState.{ClusterState}
 use Rattle.publication.specs.declared.receptions.Reception.{Reception}
 use Rattle.publication.specs.LinkMeanings.{LinkMeaning}
 use Rattle.publication.specs.Publications.{is_handed}
-use Rattle.publication.specs.Receptions.{CanHand, HandedTo, is_reached}
-use Rattle.publication.proofs.Progress.{Progress, next_is_at}
+use Rattle.publication.specs.Receptions.{HandedTo, is_reached}
+use Rattle.publication.proofs.Progress.{Progress}
 
 -- what is noted of a link, with how its node took the publication
 abbrev pub Passed : {A : Type 0} → (A → LinkMeaning) → Reception × A → A → Bool → Type 0

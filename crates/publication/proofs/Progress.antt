@@ -1,6 +1,6 @@
 -- A loop that changes the items of a list one by one, from the front, and notes something of each: what is known of the
 -- items that it has passed, and that the others are as they were.
-use Rattle.std.specs.Prelude.{◌≡◌, ℕ, ◌+◌, ◌<◌, List, [], ◌∷◌, ◌++◌, length, map, refl}
+use Rattle.std.specs.Prelude.{◌≡◌, ℕ, ◌<◌, List, [], ◌∷◌, ◌++◌, length, map, refl}
 use Rattle.std.specs.List.{AllByRecursion, AllZip}
 use Rattle.std.proofs.Common.{sym, ap, ◌∙◌, subst, arith, get_or, set}
 

@@ -1,13 +1,12 @@
 -- The links of a publication at its end: what its messages left and what was handed then make up what is said of each.
-use Rattle.std.specs.Prelude.{◌≡◌, ℕ, ◌+◌, ◌-◌, ◌<◌, ◌≤◌, Bool, true, false, not, ◌&&◌, ◌==◌, List, [], ◌∷◌, ◌++◌, length, map, nat_lt, refl, IsTrue}
+use Rattle.std.specs.Prelude.{◌≡◌, ℕ, ◌-◌, ◌<◌, ◌≤◌, Bool, true, false, not, ◌&&◌, ◌==◌, List, [], ◌∷◌, ◌++◌, length, map, nat_lt, refl, IsTrue}
 use Rattle.std.specs.List.{AllByRecursion, AllZip, zip}
 use Rattle.std.proofs.Common.{suc, sym, ap, ◌∙◌, subst, arith, inl}
 use Rattle.std.proofs.lemmas.Bool.Decides.{nat_tests}
-use Rattle.std.proofs.lemmas.Grind.{common_steps}
-use Rattle.edge_io.specs.Causes.{Rose, counted_up}
+use Rattle.edge_io.specs.Causes.{Rose}
 use Rattle.meta_state.specs.declared.cluster_state.ClusterState.{ClusterState}
 use Rattle.publication.specs.declared.receptions.Reception.{Reception}
-use Rattle.publication.specs.LinkMeanings.{LinkMeaning, after_fault, after_hand}
+use Rattle.publication.specs.LinkMeanings.{LinkMeaning}
 use Rattle.publication.specs.Publications.{CanPublishTo, PublishedTo, does_accept, is_handed, is_member}
 use Rattle.publication.specs.Receptions.{CanHand, HandedTo, HoldsOldOrNew, SentTo, is_reached, reception_of}
 use Rattle.publication.proofs.Answering.{is_reached-reception_of}

@@ -1,7 +1,7 @@
 -- The links of a publication after its messages: what is noted of each, and what all of them hold.
-use Rattle.std.specs.Prelude.{◌≡◌, ℕ, Bool, true, false, not, List, [], ◌∷◌, length, map, refl, IsTrue, ◌⊎◌, Result, Ok, Err, OnErr}
-use Rattle.std.specs.List.{AllByRecursion, AllZip, zip}
-use Rattle.std.proofs.Common.{sym, ap, ◌∙◌, subst, arith, inl, inr}
+use Rattle.std.specs.Prelude.{◌≡◌, Bool, true, false, not, List, [], ◌∷◌, length, map, refl, Result, Ok, Err, OnErr}
+use Rattle.std.specs.List.{zip}
+use Rattle.std.proofs.Common.{ap, arith, inl, inr}
 use Rattle.meta_state.specs.declared.cluster_state.ClusterState.{ClusterState}
 use Rattle.publication.specs.declared.receptions.Reception.{Reception}
 use Rattle.publication.specs.LinkMeanings.{LinkMeaning}

@@ -1,6 +1,6 @@
 -- The link in memory, as contracts see it. It numbers its calls from 0, and those that are listed can't reach the node.
 -- The number stands still at 2^64 - 1.
-use Rattle.std.specs.Prelude.{◌≡◌, ◌==◌, ◌-◌, ℕ, Bool, false, List, [], ◌∷◌, ◌++◌, if◌then◌else◌}
+use Rattle.std.specs.Prelude.{◌==◌, ℕ, Bool, false, List, [], ◌∷◌, ◌++◌, if◌then◌else◌}
 use Rattle.std.specs.List.{list_any}
 use Rattle.edge_io.specs.Causes.{counted_up}
 use Rattle.meta_state.specs.declared.cluster_state.ClusterState.{ClusterState}

@@ -1,5 +1,5 @@
 -- How one node takes a publication, and what that leaves of its link.
-use Rattle.std.specs.Prelude.{◌≡◌, ◌≢◌, ◌≤◌, ◌<◌, ℕ, Bool, not, ◌&&◌, IsTrue, true, false, ◌==◌, bytes_eq, ◌⊎◌, if◌then◌else◌}
+use Rattle.std.specs.Prelude.{◌≡◌, ◌≢◌, ◌≤◌, ◌<◌, Bool, not, ◌&&◌, IsTrue, true, false, ◌==◌, bytes_eq, ◌⊎◌, if◌then◌else◌}
 use Rattle.edge_io.specs.Causes.{Rose}
 use Rattle.plain_data.specs.Pairs.{lookup}
 use Rattle.meta_state.specs.declared.cluster_state.ClusterState.{ClusterState}

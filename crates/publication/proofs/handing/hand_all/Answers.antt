@@ -1,4 +1,4 @@
-use Rattle.std.proofs.Common.{rules, ◌≡◌, ◌++◌, ◌∷◌, ◌<◌, [], length, sym, ap, ◌∙◌, subst, arith, refl, get_or, set, IsTrue}
+use Rattle.std.proofs.Common.{◌≡◌, ◌<◌, length, sym, ap, subst, arith, refl, get_or, set, IsTrue}
 use Rattle.std.specs.List.{zip}
 use Rattle.std.proofs.lemmas.Grind.{common_steps}
 use Rattle.std.proofs.lemmas.Slice.Zip.{seconds-zip}

@@ -1,4 +1,4 @@
-use Rattle.std.proofs.Common.{◌≡◌, Bool, false, true, length, map, sym, ap, ◌∙◌}
+use Rattle.std.proofs.Common.{map, sym, ◌∙◌}
 use Rattle.std.specs.List.{zip}
 use Rattle.publication.specs.declared.publications.Publication.TheVariants.{Committed, NotCommitted}
 use Rattle.publication.proofs.Answering.{committed, not_committed}

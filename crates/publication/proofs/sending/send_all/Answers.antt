@@ -1,7 +1,7 @@
-use Rattle.std.proofs.Common.{rules, ◌≡◌, ◌++◌, ◌∷◌, [], length, sym, subst, arith, inl, refl, get_or, set}
+use Rattle.std.proofs.Common.{sym, subst, arith, inl, refl, set}
 use Rattle.std.proofs.lemmas.Grind.{common_steps}
 use Rattle.publication.specs.Publications.{CanPublishTo}
-use Rattle.publication.specs.Receptions.{HoldsOldOrNew, SentTo, reception_of}
+use Rattle.publication.specs.Receptions.{HoldsOldOrNew, SentTo}
 use Rattle.publication.proofs.Progress.{Progress, all_passed, broken_off_at, goes_on_at, next_is_at}
 use Rattle.publication.proofs.Sends.{Noted, all_noted, on_err, sent_holds}
 use Rattle.publication.proofs.sending.send_all.Goals as goal
