@@ -1,0 +1,6 @@
+-- What the contracts of this crate cite.
+pub mod InMemory
+pub mod LinkMeanings
+pub mod Messages
+pub mod Publications
+pub mod Receptions
