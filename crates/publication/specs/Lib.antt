@@ -2,5 +2,3 @@
 pub mod InMemory
 pub mod LinkMeanings
 pub mod Messages
-pub mod Publications
-pub mod Receptions
