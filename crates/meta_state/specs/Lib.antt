@@ -8,3 +8,4 @@ pub mod States
 pub mod Tables
 pub mod Touches
 pub mod Versions
+pub mod Voters

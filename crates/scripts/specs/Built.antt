@@ -1,24 +1,12 @@
 -- What is built so far: a replay performs a script that holds nothing else. This is the one list of it; each later
 -- stage takes a line of it away. It is this project's own.
-use Rattle.std.specs.Prelude.{Bool, true, false, ◌&&◌, ◌==◌, Some, None, Option, length, nat_le, slice_get, IsTrue, is_none}
+use Rattle.std.specs.Prelude.{Bool, true, false, ◌&&◌, ◌==◌, length, nat_le, IsTrue, is_none}
 use Rattle.std.specs.List.{list_all}
-use Rattle.executors.specs.declared.kinds.Kind.{Kind}
-use Rattle.executors.specs.declared.kinds.Kind.TheVariants as kind
-use Rattle.scripts.specs.declared.queues.QueueSpec.{QueueSpec}
 use Rattle.scripts.specs.declared.whole_script.Script.{Script}
 use Rattle.scripts.specs.declared.steps.Goal.{Goal}
 use Rattle.scripts.specs.declared.steps.Goal.TheVariants as goal
 use Rattle.scripts.specs.declared.steps.Step.{Step}
 use Rattle.scripts.specs.declared.steps.Step.TheVariants as step
-
--- the executors whose tasks are performed
-abbrev pub is_built_kind : Kind → Bool
-is_built_kind kind.Nodes = false
-is_built_kind _ = true
-
-abbrev pub is_built_queue : Option QueueSpec → Bool
-is_built_queue None = false
-is_built_queue (Some queue) = is_built_kind queue.executor
 
 -- what an await may wait for
 abbrev pub is_built_goal : Goal → Bool
@@ -27,21 +15,20 @@ is_built_goal goal.Ack = false
 is_built_goal goal.Watch = false
 
 -- the steps that are performed: a submit waits for ever and asks for no acknowledgement
-abbrev pub is_built_step : Script → Step → Bool
-is_built_step script (step.Submit queue task timeout ack) = is_built_queue (slice_get script.queues queue) && (is_none timeout && is_none ack)
-is_built_step script (step.Await earlier goal) = is_built_goal goal
-is_built_step script (step.Watch node pred thens timeout) = false
-is_built_step script (step.Next watch pred thens timeout) = false
-is_built_step script (step.Read node look) = false
-is_built_step script (step.Sleep ms) = false
-is_built_step script step.Close = false
+abbrev pub is_built_step : Step → Bool
+is_built_step (step.Submit queue task timeout ack) = is_none timeout && is_none ack
+is_built_step (step.Await earlier goal) = is_built_goal goal
+is_built_step (step.Watch node pred thens timeout) = false
+is_built_step (step.Next watch pred thens timeout) = false
+is_built_step (step.Read node look) = false
+is_built_step (step.Sleep ms) = false
+is_built_step step.Close = false
 
 abbrev pub is_built : Script → Bool
 is_built script =
-    nat_le (length script.nodes) 1 &&
-    (nat_le (length script.clients) 1 &&
-    (list_all (list_all (is_built_step script)) script.clients &&
-    ((length script.faults == 0) && (length script.schedule == 0))))
+    nat_le (length script.clients) 1 &&
+    (list_all (list_all is_built_step) script.clients &&
+    ((length script.faults == 0) && (length script.schedule == 0)))
 
 abbrev pub IsBuilt : Script → Type 0
 IsBuilt script = IsTrue (is_built script)

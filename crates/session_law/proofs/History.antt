@@ -212,4 +212,4 @@ once (batch ∷ batches) client step a =
     (once batches client step (apart_rest (queued_in batch) (queued_of batches) a)))
 
 pub tasks_stand_once : TasksStandOnce
-tasks_stand_once script batches h client step = once batches client step h.apart
+tasks_stand_once script batches h client step = once batches client step h.order.apart

@@ -128,14 +128,18 @@ abbrev pub AreApart : List Queued → Type 0
 AreApart [] = Unit {0}
 AreApart (placed ∷ more) = AllByRecursion (IsApart placed) more × AreApart more
 
--- the batches of a book: each has the result that was computed for it. They are a serial history of the script, but that
--- the `seen` of their entries is only bounded
-pub record IsSerial (script : Script) (batches : List Batch) : Type 0 where
-  pub results : AllByRecursion (λ s. s.batch.result ≡ s.stepped.result) (history_of script batches)
+-- what the entries of a book's batches keep, whatever came of the batches: they are submits of the script, each stands
+-- once, and those of one client rise in a queue; their `seen` is only bounded
+pub record IsOrdered (script : Script) (batches : List Batch) : Type 0 where
   pub filled : AllByRecursion (λ b. 0 < length b.entries) batches
   pub own : AllByRecursion (IsOwn script) (queued_of batches)
   pub apart : AreApart (queued_of batches)
   pub seen : AreSeen 1 batches
+
+-- the batches of a book: each has the result that was computed for it, and their entries are in order
+pub record IsSerial (script : Script) (batches : List Batch) : Type 0 where
+  pub results : AllByRecursion (λ s. s.batch.result ≡ s.stepped.result) (history_of script batches)
+  pub order : IsOrdered script batches
 
 -- a book is kept where its batches are a serial history and its world is the one after them
 pub record IsKept (script : Script) (batches : List Batch) (end : World) : Type 0 where

@@ -2,11 +2,11 @@
 -- it, by a diff or in full (Elasticsearch's `PublicationTransportHandler`). It commits where the master and more than
 -- half of the eligible nodes accepted it, and ends there: this rule is the project's own. `cut name k` tells whether
 -- the node of this name can't be reached at the k-th publication that is sent to it.
-use Rattle.std.specs.Prelude.{ℕ, ◌+◌, Bool, true, false, not, ◌&&◌, ◌==◌, List, [], ◌∷◌, Option, Some, None, filter, is_some, map, nat_lt, bytes_eq, count_by, if◌then◌else◌}
+use Rattle.std.specs.Prelude.{ℕ, ◌+◌, Bool, true, false, not, ◌&&◌, ◌==◌, List, [], ◌∷◌, Option, Some, None, filter, is_some, map, bytes_eq, count_by, if◌then◌else◌}
 use Rattle.std.specs.List.{list_any, zip}
 use Rattle.plain_data.specs.Pairs.{lookup}
-use Rattle.meta_state.specs.declared.node_info.NodeInfo.{NodeInfo}
 use Rattle.meta_state.specs.declared.cluster_state.ClusterState.{ClusterState}
+use Rattle.meta_state.specs.Voters.{is_eligible, is_majority}
 use Rattle.scripts.specs.declared.faults.Fault.{Fault}
 use Rattle.scripts.specs.declared.faults.FaultKind.{FaultKind}
 use Rattle.scripts.specs.declared.faults.FaultKind.TheVariants.{Unreachable}
@@ -34,11 +34,6 @@ abbrev pub cut_by : List Fault → List ℕ → ℕ → Bool
 cut_by faults name k = is_unreachable (fault_at faults name k)
 
 -- ---- one node
-
--- whether a node counts for the majority in a state
-abbrev pub is_eligible : Option NodeInfo → Bool
-is_eligible None = false
-is_eligible (Some node) = node.eligible
 
 -- whether a node is sent the diff from the state before: it was in that state, and has it
 abbrev pub is_sent_diff : ClusterState → List ℕ → NodeWorld → Bool
@@ -75,10 +70,6 @@ reach_of cut prev new nodes have = counted_on cut prev new (zip nodes have)
 
 -- ---- whether it commits
 
--- how many nodes of a state count for the majority
-abbrev pub electorate : List (List ℕ × NodeInfo) → ℕ
-electorate nodes = count_by (λ p. p.1.eligible) nodes
-
 -- the master accepted it, and so did more than half of the eligible nodes
 abbrev pub does_commit : ClusterState → Reach → Bool
-does_commit new reach = reach.master && nat_lt (electorate new.nodes) (reach.votes + reach.votes)
+does_commit new reach = reach.master && is_majority new.nodes reach.votes
