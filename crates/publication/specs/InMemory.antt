@@ -1,6 +1,6 @@
 -- The link in memory, as contracts see it. It numbers its calls from 0, and those that are listed can't reach the node.
 -- The number stands still at 2^64 - 1.
-use Rattle.std.specs.Prelude.{◌==◌, ℕ, Bool, false, List, [], ◌∷◌, ◌++◌, if◌then◌else◌}
+use Rattle.std.specs.Prelude.{◌==◌, ℕ, Bool, true, false, List, [], ◌∷◌, ◌++◌, if◌then◌else◌}
 use Rattle.std.specs.List.{list_any}
 use Rattle.edge_io.specs.Causes.{counted_up}
 use Rattle.meta_state.specs.declared.cluster_state.ClusterState.{ClusterState}
@@ -16,9 +16,14 @@ pub record MemLinkView : Type 0 where
   pub calls : ℕ
   pub kinds : List MessageKind
 
+-- whether no call is one of those that fail
+abbrev pub is_nil : List ℕ → Bool
+is_nil [] = true
+is_nil (_ ∷ _) = false
+
 abbrev pub new_mem_link : List ℕ → ClusterState → ℕ → List ℕ → MemLinkView
 new_mem_link name held room failing = record {
-  meaning = record { name = name; held = held; ready = false; handed = []; room = room; faults = 0 };
+  meaning = record { name = name; held = held; ready = false; handed = []; room = room; faults = 0; reliable = is_nil failing };
   failing = failing;
   calls = 0;
   kinds = [];

@@ -1,12 +1,13 @@
 -- What a caller may rely on at a link, and what each call makes of it. A count of faults shows the cause of each fault:
 -- it never falls, and goes up by one where the node can't be reached (`Rose`).
 use Rattle.std.specs.Prelude.{◌≡◌, ◌-◌, ℕ, Bool, false, ◌||◌, List, [], ◌∷◌, ◌++◌, Option, ◌⊎◌}
+use Rattle.edge_io.specs.Causes.{Rose}
 use Rattle.meta_state.specs.declared.cluster_state.ClusterState.{ClusterState}
 use Rattle.publication.specs.declared.messages.Message.{Message}
 use Rattle.publication.specs.Messages.{is_accepted, received}
 
 -- a link: its node's name, the state that the node holds, whether this is ready to be handed, the states that the node
--- was handed, for how many commits there is room, and how many calls have failed
+-- was handed, for how many commits there is room, how many calls have failed, and whether none ever does
 pub record LinkMeaning : Type 0 where
   pub name : List ℕ
   pub held : ClusterState
@@ -14,10 +15,16 @@ pub record LinkMeaning : Type 0 where
   pub handed : List ClusterState
   pub room : ℕ
   pub faults : ℕ
+  pub reliable : Bool
 
 -- a call that couldn't reach the node: it was counted, and nothing else changed
 abbrev pub after_fault : LinkMeaning → ℕ → LinkMeaning
 after_fault link faults = record link { faults = faults }
+
+-- a call failed: its fault was counted, and the link isn't one of which none fails
+pub record Fails (before after : LinkMeaning) : Type 0 where
+  pub rose : Rose before.faults after.faults
+  pub can : before.reliable ≡ false
 
 -- a message that reached the node: what is accepted is held, and ready to be handed
 abbrev pub after_message : Message → LinkMeaning → ℕ → LinkMeaning

@@ -8,12 +8,11 @@ use plain_data::Text;
 pub trait Link {
     ghost use Rattle.std.specs.Prelude.{◌≡◌, ◌≤◌, ◌<◌, ◌^◌, Bool, IfOk, IfErr, OnOk, OnErr, IsErrOf, IsTrue};
     ghost use Rattle.std.specs.declared.option.Option.{Option};
-    ghost use Rattle.edge_io.specs.Causes.{Rose};
     ghost use Rattle.publication.specs.Messages.{received, AcceptsTarget};
-    ghost use Rattle.publication.specs.LinkMeanings.{LinkMeaning, ScriptMeaning, after_fault, after_message, after_hand, HoldsOldOrSent};
+    ghost use Rattle.publication.specs.LinkMeanings.{Fails, LinkMeaning, ScriptMeaning, after_fault, after_message, after_hand, HoldsOldOrSent};
 
     /// What a caller may rely on: the node's name, the state that it holds, whether this is ready to be handed, what
-    /// it was handed so far, for how many commits there is room, and how many calls have failed.
+    /// it was handed so far, for how many commits there is room, how many calls have failed, and whether none does.
     ghost meaning: { Self → LinkMeaning };
 
     /// How it follows a script, where it tells. No clause of a call speaks of it.
@@ -32,7 +31,7 @@ pub trait Link {
         // What is accepted is the message's state.
         ensures leads { IfOk result (λ receipt. AcceptsTarget receipt (meaning self.new).held message.now) }
         ensures unreachable { IsErrOf result LinkFault.Unreachable → meaning self.new ≡ after_fault (meaning self.old) (meaning self.new).faults }
-        ensures cause { IsErrOf result LinkFault.Unreachable → Rose (meaning self.old).faults (meaning self.new).faults }
+        ensures cause { IsErrOf result LinkFault.Unreachable → Fails (meaning self.old) (meaning self.new) }
         ensures out_of_memory { IsErrOf result LinkFault.OutOfMemory → HoldsOldOrSent message.now (meaning self.old) (meaning self.new) }
         ensures never_falls { (meaning self.old).faults ≤ (meaning self.new).faults };
 
@@ -45,7 +44,7 @@ pub trait Link {
         requires bound { version < 2 ^ 32 }
         ensures ok { OnOk result (meaning self.new ≡ after_hand (meaning self.old) (meaning self.new).faults) }
         ensures unreachable { OnErr result (meaning self.new ≡ after_fault (meaning self.old) (meaning self.new).faults) }
-        ensures cause { OnErr result (Rose (meaning self.old).faults (meaning self.new).faults) }
+        ensures cause { OnErr result (Fails (meaning self.old) (meaning self.new)) }
         ensures fault { IfErr result (λ fault. fault ≡ LinkFault.Unreachable) }
         ensures never_falls { (meaning self.old).faults ≤ (meaning self.new).faults };
 }

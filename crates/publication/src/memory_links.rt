@@ -27,12 +27,12 @@ pub struct MemLink {
 
 impl Model for MemLink {
     ghost use Rattle.std.specs.Prelude.{◌≡◌, ◌≤◌, ◌+◌, vec_len, vec_capacity, is_some, IfSome};
-    ghost use Rattle.publication.specs.InMemory.{MemLinkView};
+    ghost use Rattle.publication.specs.InMemory.{MemLinkView, is_nil};
 
     ghost Value = { MemLinkView };
 
     ghost view = { λ l. record {
-      meaning = record { name = l.node; held = l.replica; ready = is_some l.waiting; handed = l.handed.items; room = l.room; faults = l.faults };
+      meaning = record { name = l.node; held = l.replica; ready = is_some l.waiting; handed = l.handed.items; room = l.room; faults = l.faults; reliable = is_nil l.failing.items };
       failing = l.failing.items;
       calls = l.calls;
       kinds = l.kinds;
@@ -42,7 +42,7 @@ impl Model for MemLink {
 }
 
 impl MemLink {
-    ghost use Rattle.std.specs.Prelude.{◌≡◌, ◌≤◌, IfOk};
+    ghost use Rattle.std.specs.Prelude.{◌≡◌, ◌≤◌, false, IfOk, IsTrue};
     ghost use Rattle.publication.specs.InMemory.{counted_call, new_mem_link};
 
     /// A link to a node that holds what the replica holds, with room for `room` commits. The room is taken here, so
@@ -106,9 +106,11 @@ impl MemLink {
     }
 
     // Whether this call is one of those that fail. It is counted, and so is its fault.
+    #[tactic(auto, using(crate::proofs::Failures::listed_is_not_nil))]
     fn fails(&mut self) -> bool
         ensures counted { (result, self.new) ≡ counted_call self.old }
         ensures never_falls { self.old.meaning.faults ≤ self.new.meaning.faults }
+        ensures can { IsTrue result → self.old.meaning.reliable ≡ false }
     {
         let call = self.calls;
         self.calls = call.saturating_add(1);
@@ -122,9 +124,8 @@ impl MemLink {
 
 impl Link for MemLink {
     ghost use Rattle.std.specs.Prelude.{◌≡◌, ◌≤◌, ◌<◌, ◌^◌, None, IfOk, IfErr, OnOk, OnErr, IsErrOf, IsTrue, ◌↔◌};
-    ghost use Rattle.edge_io.specs.Causes.{Rose};
     ghost use Rattle.publication.specs.InMemory.{counted_call, does_fail, mem_handed, mem_received};
-    ghost use Rattle.publication.specs.LinkMeanings.{after_fault, after_hand, after_message, HoldsOldOrSent};
+    ghost use Rattle.publication.specs.LinkMeanings.{Fails, after_fault, after_hand, after_message, HoldsOldOrSent};
     ghost use Rattle.publication.specs.Messages.{received, AcceptsTarget};
 
     ghost meaning = { λ l. l.meaning };
@@ -142,7 +143,7 @@ impl Link for MemLink {
         ensures ok { OnOk result (self.new.meaning ≡ after_message message.now self.old.meaning self.new.meaning.faults) }
         ensures leads { IfOk result (λ receipt. AcceptsTarget receipt self.new.meaning.held message.now) }
         ensures unreachable { IsErrOf result LinkFault.Unreachable → self.new.meaning ≡ after_fault self.old.meaning self.new.meaning.faults }
-        ensures cause { IsErrOf result LinkFault.Unreachable → Rose self.old.meaning.faults self.new.meaning.faults }
+        ensures cause { IsErrOf result LinkFault.Unreachable → Fails self.old.meaning self.new.meaning }
         ensures out_of_memory { IsErrOf result LinkFault.OutOfMemory → HoldsOldOrSent message.now self.old.meaning self.new.meaning }
         ensures never_falls { self.old.meaning.faults ≤ self.new.meaning.faults }
 
@@ -173,7 +174,7 @@ impl Link for MemLink {
         requires bound { _version < 2 ^ 32 }
         ensures ok { OnOk result (self.new.meaning ≡ after_hand self.old.meaning self.new.meaning.faults) }
         ensures unreachable { OnErr result (self.new.meaning ≡ after_fault self.old.meaning self.new.meaning.faults) }
-        ensures cause { OnErr result (Rose self.old.meaning.faults self.new.meaning.faults) }
+        ensures cause { OnErr result (Fails self.old.meaning self.new.meaning) }
         ensures fault { IfErr result (λ fault. fault ≡ LinkFault.Unreachable) }
         ensures never_falls { self.old.meaning.faults ≤ self.new.meaning.faults }
 

@@ -1,0 +1,30 @@
+-- A commit handed over one link.
+use Rattle.std.specs.Prelude.{◌≡◌, ◌≤◌, ◌<◌, ◌-◌, ℕ, Bool, true, false, not, ◌++◌, List, [], ◌∷◌, IsTrue, if◌then◌else◌}
+use Rattle.meta_state.specs.declared.cluster_state.ClusterState.{ClusterState}
+use Rattle.publication.specs.declared.deliveries.Answer.{Answer}
+use Rattle.publication.specs.LinkMeanings.{Fails, LinkMeaning}
+
+-- what a link has to be, so that it can be handed the new state
+pub record IsReadyFor (new : ClusterState) (link : LinkMeaning) : Type 0 where
+  pub held : link.held ≡ new
+  pub ready : IsTrue link.ready
+  pub room : 0 < link.room
+
+-- a link after a commit that its node got, or didn't
+abbrev pub handed_link : LinkMeaning → Bool → ℕ → LinkMeaning
+handed_link link got count =
+    if got
+    then record link { ready = false; handed = link.handed ++ link.held ∷ []; room = link.room - 1; faults = count }
+    else record link { faults = count }
+
+-- whether a node that accepted got the commit, by what its link was and is
+pub record IsHandedOver (before after : LinkMeaning) (got : Bool) : Type 0 where
+  pub link : after ≡ handed_link before got after.faults
+  pub faults : before.faults ≤ after.faults
+  pub lost : got ≡ false → Fails before after
+
+-- a link that was asked, after the commit: its node was handed it where it had accepted, but for a failure
+pub record IsHanded (before after : LinkMeaning) (was is_now : Answer) : Type 0 where
+  pub rest : is_now ≡ record was { handed = is_now.handed }
+  pub passed : was.accepted ≡ false → (is_now.handed ≡ false) × (after ≡ before)
+  pub over : was.accepted ≡ true → IsHandedOver before after is_now.handed

@@ -1,0 +1,60 @@
+-- What comes of a message, and of a new state, at one link, before it is committed.
+use Rattle.std.specs.Prelude.{◌≡◌, ◌≤◌, Bool, true, false, Some}
+use Rattle.meta_state.specs.declared.cluster_state.ClusterState.{ClusterState}
+use Rattle.state_diff.specs.StateDiffs.{applied, state_between}
+use Rattle.publication.specs.declared.messages.Message.{Message}
+use Rattle.publication.specs.declared.messages.Message.TheVariants.{Full, Diff}
+use Rattle.publication.specs.declared.offers.Offer.{Offer}
+use Rattle.publication.specs.declared.offers.Offer.TheVariants as offer
+use Rattle.publication.specs.declared.sendings.Brought.{Brought}
+use Rattle.publication.specs.declared.sendings.Brought.TheVariants as brought
+use Rattle.publication.specs.Deliveries.{is_sent_diff}
+use Rattle.publication.specs.LinkMeanings.{Fails, LinkMeaning, after_fault}
+use Rattle.publication.specs.Messages.{is_accepted, received}
+
+-- ---- one message
+
+pub record IsAccepted (message : Message) (before after : LinkMeaning) : Type 0 where
+  pub takes : is_accepted (received before.held message).0 ≡ true
+  pub link : after ≡ record before { held = (received before.held message).1; ready = true; faults = after.faults }
+  pub faults : before.faults ≤ after.faults
+
+pub record IsRefused (message : Message) (before after : LinkMeaning) : Type 0 where
+  pub refuses : is_accepted (received before.held message).0 ≡ false
+  pub link : after ≡ after_fault before after.faults
+  pub faults : before.faults ≤ after.faults
+
+pub record IsMissed (before after : LinkMeaning) : Type 0 where
+  pub link : after ≡ after_fault before after.faults
+  pub fails : Fails before after
+  pub faults : before.faults ≤ after.faults
+
+-- what came of a message: it was accepted, refused, or didn't reach the node
+abbrev pub IsOffered : Message → LinkMeaning → LinkMeaning → Offer → Type 0
+IsOffered message before after offer.Accepted = IsAccepted message before after
+IsOffered message before after offer.Refused = IsRefused message before after
+IsOffered message before after offer.Missed = IsMissed before after
+
+-- ---- a new state
+
+-- the state before, and the new one
+pub record Change : Type 0 where
+  pub prev : ClusterState
+  pub new : ClusterState
+
+-- the two messages that bring a new state
+pub record AreMessagesOf (change : Change) (diff full : Message) : Type 0 where
+  pub diff_is : diff ≡ Diff (state_between change.prev change.new)
+  pub full_is : full ≡ Full change.new
+  pub leads : applied (state_between change.prev change.new) change.prev ≡ Some change.new
+
+-- its node has the new state, which is ready to be handed
+pub record Holds (change : Change) (by_diff : Bool) (before after : LinkMeaning) : Type 0 where
+  pub sent : is_sent_diff change.prev before ≡ by_diff
+  pub link : after ≡ record before { held = change.new; ready = true; faults = after.faults }
+  pub faults : before.faults ≤ after.faults
+
+abbrev pub IsBrought : Change → LinkMeaning → LinkMeaning → Brought → Type 0
+IsBrought change before after brought.ByDiff = Holds change true before after
+IsBrought change before after brought.InFull = Holds change false before after
+IsBrought change before after brought.Missed = IsMissed before after
