@@ -41,6 +41,43 @@ pub struct Delivery {
     pub answers: Items<Answer>,
 }
 
+impl Delivery {
+    ghost use Rattle.std.specs.Prelude.{◌≡◌, ◌<◌, ◌^◌};
+    ghost use Rattle.std.specs.List.{list_any};
+    ghost use Rattle.publication.specs.Deliveries.{diffs_in, fulls_in, votes_in};
+
+    /// How many nodes accepted the diff.
+    pub fn diffs(&self) -> u64
+        ensures count { result ≡ diffs_in self.now.answers }
+        ensures few { result < 2 ^ 63 }
+    {
+        todo!()
+    }
+
+    /// How many accepted the whole state.
+    pub fn fulls(&self) -> u64
+        ensures count { result ≡ fulls_in self.now.answers }
+        ensures few { result < 2 ^ 63 }
+    {
+        todo!()
+    }
+
+    /// How many that accepted count for the majority.
+    pub fn votes(&self) -> u64
+        ensures count { result ≡ votes_in self.now.answers }
+        ensures few { result < 2 ^ 63 }
+    {
+        todo!()
+    }
+
+    /// Whether the master accepted.
+    pub fn has_master(&self) -> bool
+        ensures { result ≡ list_any (λ a. a.leads) self.now.answers }
+    {
+        todo!()
+    }
+}
+
 /// Brings a new state over links to the nodes that it has, by the diff that leads to it from the state before, or
 /// whole to a node that wasn't in that state or doesn't have it. It commits where the master and more than half of the
 /// eligible nodes accepted it, and then hands each node that accepted the commit. Both messages are made before the
