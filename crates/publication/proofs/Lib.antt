@@ -1,3 +1,4 @@
--- Lemmas that the proofs of this crate share.
+-- Lemmas that the proofs of this crate and of those above share.
 pub mod Failures
 pub mod Targets
+pub mod Threes

@@ -11,5 +11,5 @@ use plain_data::Map;
 pub(crate) fn commits(new: &ClusterState, answers: &[Answer]) -> bool
     ensures { result ≡ does_commit new.now answers.now }
 {
-    todo!()
+    false
 }

