@@ -27,7 +27,7 @@ pub(crate) struct Row {
 }
 
 // Each worked out by hand.
-pub(crate) const ROWS: [Row; 27] = [
+pub(crate) const ROWS: [Row; 30] = [
     // a script without clients
     Row {
         words: "replay",
@@ -313,6 +313,76 @@ state {"cluster":"demo","id":2,"master":"n0","metadata":{"created":0,"indices":{
         room: 1_000_000,
         status: 0,
         written: "report 1\n* unchanged 1\ntask 0.0 at 0 refused invalid_name\nstate *",
+    },
+    // several nodes: a node joins, leaves and joins again; what is refused of nodes; and what a node that joined is sent
+    Row {
+        words: "replay",
+        blanks: 0,
+        script: [
+            r#"{"version":1,"cluster":"demo","nodes":[{"name":"n0"},{"name":"n1"},{"name":"n2","member":false}],"queues":[{"name":"node","executor":"nodes","priority":"IMMEDIATE"}],"clients":[[{"do":"submit","queue":"node","task":{"node":"n2","action":"join"}},{"do":"await","step":0,"for":"task"},{"do":"submit","queue":"node","task":{"node":"n2","action":"leave"}},{"do":"await","step":2,"for":"task"},{"do":"submit","queue":"node","task":{"node":"n2","action":"join"}}]]}"#,
+            "",
+            "",
+        ],
+        pieces: [("", 0), ("", 0)],
+        comma: ",",
+        fails: false,
+        room: 1_000_000,
+        status: 0,
+        written: r#"report 1
+batch 1 queue node at 0 tasks 0.0/0 published 2 id 2 commit 0 diffs 2 fulls 1 accepted 3
+batch 2 queue node at 0 tasks 0.2/1 published 3 id 3 commit 0 diffs 2 fulls 0 accepted 2
+batch 3 queue node at 0 tasks 0.4/2 published 4 id 4 commit 0 diffs 2 fulls 1 accepted 3
+task 0.0 at 0 ok 2
+task 0.2 at 0 ok 3
+task 0.4 at 0 ok 4
+state {"cluster":"demo","id":4,"master":"n0","metadata":{"created":0,"indices":{},"settings":{},"version":1},"nodes":{"n0":{"eligible":true},"n1":{"eligible":true},"n2":{"eligible":true}},"term":1,"version":4}
+"#,
+    },
+    Row {
+        words: "replay",
+        blanks: 0,
+        script: [
+            r#"{"version":1,"cluster":"demo","nodes":[{"name":"n0"},{"name":"n1","member":false}],"queues":[{"name":"node","executor":"nodes"}],"clients":[[{"do":"submit","queue":"node","task":{"node":"n0","action":"join"}},{"do":"submit","queue":"node","task":{"node":"n1","action":"leave"}},{"do":"submit","queue":"node","task":{"node":"n0","action":"leave"}}]]}"#,
+            "",
+            "",
+        ],
+        pieces: [("", 0), ("", 0)],
+        comma: ",",
+        fails: false,
+        room: 1_000_000,
+        status: 0,
+        written: r#"report 1
+batch 1 queue node at 0 tasks 0.0/0 unchanged 1
+batch 2 queue node at 0 tasks 0.1/0 unchanged 1
+batch 3 queue node at 0 tasks 0.2/0 unchanged 1
+task 0.0 at 0 refused node_known
+task 0.1 at 0 refused node_unknown
+task 0.2 at 0 refused master_may_not_leave
+state {"cluster":"demo","id":1,"master":"n0","metadata":{"created":0,"indices":{},"settings":{},"version":1},"nodes":{"n0":{"eligible":true}},"term":1,"version":1}
+"#,
+    },
+    Row {
+        words: "replay",
+        blanks: 0,
+        script: [
+            r#"{"version":1,"cluster":"demo","nodes":[{"name":"n0"},{"name":"n1"},{"name":"n2","eligible":false,"member":false}],"queues":[{"name":"node","executor":"nodes"},{"name":"glob","executor":"cluster_settings"}],"clients":[[{"do":"submit","queue":"node","task":{"node":"n2","action":"join"}},{"do":"submit","queue":"glob","task":{"key":"a","value":"v"}},{"do":"submit","queue":"glob","task":{"key":"b","value":"v"}}]]}"#,
+            "",
+            "",
+        ],
+        pieces: [("", 0), ("", 0)],
+        comma: ",",
+        fails: false,
+        room: 1_000_000,
+        status: 0,
+        written: r#"report 1
+batch 1 queue node at 0 tasks 0.0/0 published 2 id 2 commit 0 diffs 2 fulls 1 accepted 3
+batch 2 queue glob at 0 tasks 0.1/0 published 3 id 3 commit 0 diffs 3 fulls 0 accepted 3
+batch 3 queue glob at 0 tasks 0.2/0 published 4 id 4 commit 0 diffs 3 fulls 0 accepted 3
+task 0.0 at 0 ok 2
+task 0.1 at 0 ok 3
+task 0.2 at 0 ok 4
+state {"cluster":"demo","id":4,"master":"n0","metadata":{"created":0,"indices":{},"settings":{"a":"v","b":"v"},"version":3},"nodes":{"n0":{"eligible":true},"n1":{"eligible":true},"n2":{"eligible":false}},"term":1,"version":4}
+"#,
     },
     // refused scripts
     Row {

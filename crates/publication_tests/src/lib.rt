@@ -2,9 +2,16 @@
 //! lower crates are.
 #![tactic(auto)]
 
+mod publishing_nodes;
+mod small_links;
 mod small_states;
 
+pub use publishing_nodes::state_of;
+pub use small_links::{kinds_told, link_to, told};
 pub use small_states::state_with;
 
 #[cfg(test)]
 mod diff_calls;
+
+#[cfg(test)]
+mod link_calls;

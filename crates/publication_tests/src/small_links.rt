@@ -1,0 +1,76 @@
+use meta_state::ClusterState;
+use plain_data::{OutOfMemory, Text};
+use publication::{MemLink, MessageKind, Publication, Replica};
+use std::alloc::Global;
+
+/// A link to a node that holds a state, with room for four commits. Its calls of these numbers fail.
+pub fn link_to(
+    alloc: Global,
+    node: &str,
+    held: &ClusterState,
+    failing: &[u64],
+) -> Result<MemLink, OutOfMemory> {
+    let mut calls = Vec::new(alloc);
+    for call in failing {
+        calls.push(*call)?;
+    }
+    let replica = Replica::new(held.copy(alloc)?);
+    MemLink::new(alloc, Text::from_str(alloc, node)?, replica, 4, calls)
+}
+
+/// A publication in one line: what came of it, its counts, and its places.
+pub fn told(alloc: Global, publication: &Publication) -> Result<Text, OutOfMemory> {
+    let mut line = String::new(alloc);
+    match publication {
+        Publication::Committed {
+            diffs,
+            fulls,
+            accepted,
+            handed,
+        } => {
+            write_counts(&mut line, "committed", *diffs, *fulls)?;
+            write_places(&mut line, " accepted", accepted.as_slice())?;
+            write_places(&mut line, " handed", handed.as_slice())?;
+        }
+        Publication::NotCommitted {
+            diffs,
+            fulls,
+            accepted,
+        } => {
+            write_counts(&mut line, "failed", *diffs, *fulls)?;
+            write_places(&mut line, " accepted", accepted.as_slice())?;
+        }
+    }
+    Ok(Text::from_string(line))
+}
+
+/// The kinds of the messages that a link's node answered, a letter each: `f` for a whole state and `d` for a diff.
+pub fn kinds_told(alloc: Global, link: &MemLink) -> Result<Text, OutOfMemory> {
+    let mut letters = String::new(alloc);
+    for kind in link.kinds() {
+        match kind {
+            MessageKind::Full => letters.push('f')?,
+            MessageKind::Diff => letters.push('d')?,
+        }
+    }
+    Ok(Text::from_string(letters))
+}
+
+fn write_counts(line: &mut String, word: &str, diffs: u64, fulls: u64) -> Result<(), OutOfMemory> {
+    line.push_str(word)?;
+    write_number(line, " diffs ", diffs)?;
+    write_number(line, " fulls ", fulls)
+}
+
+fn write_number(line: &mut String, before: &str, number: u64) -> Result<(), OutOfMemory> {
+    write!(line, "{before}{number}")?;
+    Ok(())
+}
+
+fn write_places(line: &mut String, word: &str, places: &[u32]) -> Result<(), OutOfMemory> {
+    line.push_str(word)?;
+    for place in places {
+        write_number(line, " ", u64::from(*place))?;
+    }
+    Ok(())
+}
