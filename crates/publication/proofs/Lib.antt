@@ -1,4 +1,5 @@
 -- Lemmas that the proofs of this crate and of those above share.
+pub mod Counting
 pub mod Failures
 pub mod Offering
 pub mod Targets

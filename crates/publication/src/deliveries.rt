@@ -5,6 +5,7 @@ ghost use Rattle.publication.specs.Deliveries.{CanTake, HoldsOldOrNew, IsDeliver
 ghost use Rattle.publication.specs.Offers.{Change};
 ghost use Rattle.publication.specs.Threes.{AllThree};
 
+use crate::commits::{count_votes, has_leader};
 use crate::links::Link;
 use meta_state::ClusterState;
 use plain_data::{Items, OutOfMemory};
@@ -44,19 +45,26 @@ impl Delivery {
     ghost use Rattle.publication.specs.Deliveries.{diffs_in, fulls_in, votes_in};
 
     /// How many nodes accepted the diff.
+    #[tactic(auto, using(crate::proofs::Counting::count_fits))]
     pub fn diffs(&self) -> u64
         ensures count { result ≡ diffs_in self.now.answers }
         ensures few { result < 2 ^ 63 }
     {
-        0
+        let answers = self.answers.as_slice();
+        answers.iter().filter(|answer| answer.by_diff).count() as u64
     }
 
     /// How many accepted the whole state.
+    #[tactic(auto, using(crate::proofs::Counting::count_fits))]
     pub fn fulls(&self) -> u64
         ensures count { result ≡ fulls_in self.now.answers }
         ensures few { result < 2 ^ 63 }
     {
-        0
+        let answers = self.answers.as_slice();
+        answers
+            .iter()
+            .filter(|answer| answer.accepted && !answer.by_diff)
+            .count() as u64
     }
 
     /// How many that accepted count for the majority.
@@ -64,14 +72,14 @@ impl Delivery {
         ensures count { result ≡ votes_in self.now.answers }
         ensures few { result < 2 ^ 63 }
     {
-        0
+        count_votes(self.answers.as_slice())
     }
 
     /// Whether the master accepted.
     pub fn has_master(&self) -> bool
         ensures { result ≡ list_any (λ a. a.leads) self.now.answers }
     {
-        false
+        has_leader(self.answers.as_slice())
     }
 }
 
