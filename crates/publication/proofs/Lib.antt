@@ -2,5 +2,6 @@
 pub mod Counting
 pub mod Failures
 pub mod Offering
+pub mod Sending
 pub mod Targets
 pub mod Threes
