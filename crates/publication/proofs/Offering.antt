@@ -29,7 +29,7 @@ refused_link : (message : Message) (before after : LinkMeaning) → is_accepted 
     → after ≡ after_message message before after.faults → after ≡ after_fault before after.faults
 refused_link message before after refused link =
     link ∙ (ap (λ (h : ClusterState). left before after h (is_accepted (received before.held message).0)) (refused_keeps before.held message refused)
-        ∙ ap (λ (b : Bool). left before after before.held b) refused)
+    ∙ ap (λ (b : Bool). left before after before.held b) refused)
 
 pub is_refused : (message : Message) (before after : LinkMeaning) (has wants : ℕ) → Incompatible has wants ≡ (received before.held message).0
     → after ≡ after_message message before after.faults → before.faults ≤ after.faults → IsRefused message before after

@@ -1,23 +1,19 @@
 -- What comes of a new state at one link: the diff is accepted exactly where the state before is held, and the whole
 -- state always.
-use Rattle.std.specs.Prelude.{◌≡◌, ◌≤◌, Result, Ok, Err, OnErr, ◌==◌, ◌&&◌, ◌⊎◌, ℕ, Bool, true, false, Some, None, Option, refl, is_some, bytes_eq, if◌then◌else◌}
+use Rattle.std.specs.Prelude.{◌≡◌, ◌==◌, ◌&&◌, ◌⊎◌, ℕ, Bool, true, false, Option, Some, None, Result, Ok, Err, OnErr, refl, if◌then◌else◌}
 use Rattle.std.proofs.Common.{sym, ap, ◌∙◌, arith, inl, inr}
 use Rattle.std.proofs.lemmas.Bool.Decides.{nat_tests}
-use Rattle.plain_data.specs.Pairs.{lookup}
 use Rattle.meta_state.specs.declared.cluster_state.ClusterState.{ClusterState}
-use Rattle.meta_state.specs.Voters.{is_eligible}
 use Rattle.state_diff.specs.declared.state_diffs.DiffParts.{DiffParts}
 use Rattle.state_diff.specs.StateDiffs.{applied, state_between}
 use Rattle.publication.specs.declared.messages.Message.{Message}
 use Rattle.publication.specs.declared.messages.Message.TheVariants.{Full, Diff}
 use Rattle.publication.specs.declared.receipts.Receipt.{Receipt}
 use Rattle.publication.specs.declared.receipts.Receipt.TheVariants.{Accepted, Incompatible}
-use Rattle.publication.specs.declared.sendings.Brought.{Brought}
-use Rattle.publication.specs.declared.sendings.Brought.TheVariants as brought
-use Rattle.publication.specs.Deliveries.{CanTake, HoldsOldOrNew, IsDelivered, is_in, is_sent_diff}
-use Rattle.publication.specs.LinkMeanings.{Fails, HoldsOldOrSent, LinkMeaning, after_fault}
+use Rattle.publication.specs.Deliveries.{CanTake, HoldsOldOrNew, is_in, is_sent_diff}
+use Rattle.publication.specs.LinkMeanings.{HoldsOldOrSent, LinkMeaning}
 use Rattle.publication.specs.Messages.{is_accepted, made_of, received, received_diff}
-use Rattle.publication.specs.Offers.{AreMessagesOf, Change, Holds, IsAccepted, IsBrought, IsMissed, IsRefused, answer_by}
+use Rattle.publication.specs.Offers.{AreMessagesOf, Change, Holds, IsAccepted, IsRefused}
 
 same_id : (a b : ℕ) → (a == b) ≡ true → a ≡ b
 same_id a b e = grind (arith, nat_tests, e)
@@ -41,6 +37,10 @@ applied_none held patched true is_from to from = absurd cc
 applied_none held patched false true to from = absurd cc
 applied_none held patched false false to from = refl
 
+-- the receipt of the diff and what is held then, by whether the state before was held
+abbrev outcome : ClusterState → ClusterState → ℕ → Bool → Receipt × ClusterState
+outcome new held wants same = if same then (Accepted, new) else (Incompatible held.id wants, held)
+
 diff_same : (prev new held : ClusterState) → held ≡ prev → applied (state_between prev new) prev ≡ Some new
     → received held (Diff (state_between prev new)) ≡ (Accepted, new)
 diff_same prev new held same leads =
@@ -53,17 +53,17 @@ diff_other prev new held to from =
 
 taken_by : (prev new held : ClusterState) → (held.id ≡ new.id → ⊥) → (held.id ≡ prev.id → held ≡ prev) → applied (state_between prev new) prev ≡ Some new
     → (same : Bool) → (held.id == prev.id) ≡ same
-    → received held (Diff (state_between prev new)) ≡ (if same then (Accepted, new) else (Incompatible held.id prev.id, held))
+    → received held (Diff (state_between prev new)) ≡ outcome new held prev.id same
 taken_by prev new held other known leads true e = diff_same prev new held (known (same_id _ _ e)) leads
 taken_by prev new held other known leads false e = diff_other prev new held (other_id _ _ other) e
 
 -- ---- the messages that bring a new state
 
 diff_comes : (change : Change) (diff full : Message) (before : LinkMeaning) → AreMessagesOf change diff full → CanTake change.prev change.new before
-    → received before.held diff ≡ (if before.held.id == change.prev.id then (Accepted, change.new) else (Incompatible before.held.id change.prev.id, before.held))
+    → received before.held diff ≡ outcome change.new before.held change.prev.id (before.held.id == change.prev.id)
 diff_comes change diff full before are can =
     ap (λ (m : Message). received before.held m) are.diff_is
-        ∙ taken_by change.prev change.new before.held can.other can.same are.leads (before.held.id == change.prev.id) refl
+    ∙ taken_by change.prev change.new before.held can.other can.same are.leads (before.held.id == change.prev.id) refl
 
 full_comes : (change : Change) (diff full : Message) (before : LinkMeaning) → AreMessagesOf change diff full
     → received before.held full ≡ (Accepted, change.new)
@@ -72,10 +72,10 @@ full_comes change diff full before are = ap (λ (m : Message). received before.h
 pub holds_in_full : (change : Change) (diff full : Message) (before after : LinkMeaning) → AreMessagesOf change diff full
     → is_sent_diff change.prev before ≡ false → IsAccepted full before after → Holds change false before after
 holds_in_full change diff full before after are sent taken = record {
-    sent = sent;
-    link = taken.link ∙ ap (λ (r : Receipt × ClusterState). record before { held = r.1; ready = true; faults = after.faults }) (full_comes change diff full before are);
-    faults = taken.faults;
-  }
+  sent = sent;
+  link = taken.link ∙ ap (λ (r : Receipt × ClusterState). record before { held = r.1; ready = true; faults = after.faults }) (full_comes change diff full before are);
+  faults = taken.faults;
+}
 
 pub full_is_taken : (change : Change) (diff full : Message) (before after : LinkMeaning) → AreMessagesOf change diff full → IsRefused full before after → ⊥
 full_is_taken change diff full before after are refused =
@@ -85,29 +85,29 @@ full_is_taken change diff full before after are refused =
 
 -- what is held after a diff that was accepted
 made_by : (new held : ClusterState) (wants : ℕ) (result : Receipt × ClusterState) (same : Bool)
-    → result ≡ (if same then (Accepted, new) else (Incompatible held.id wants, held)) → is_accepted result.0 ≡ true → (same ≡ true) × (result.1 ≡ new)
+    → result ≡ outcome new held wants same → is_accepted result.0 ≡ true → (same ≡ true) × (result.1 ≡ new)
 made_by new held wants result true e takes = (refl, ap (λ (r : Receipt × ClusterState). r.1) e)
 made_by new held wants result false e takes =
     let no : is_accepted result.0 ≡ false = ap (λ (r : Receipt × ClusterState). is_accepted r.0) e in
     absurd cc
 
 refused_by : (new held : ClusterState) (wants : ℕ) (result : Receipt × ClusterState) (same : Bool)
-    → result ≡ (if same then (Accepted, new) else (Incompatible held.id wants, held)) → is_accepted result.0 ≡ false → same ≡ false
+    → result ≡ outcome new held wants same → is_accepted result.0 ≡ false → same ≡ false
 refused_by new held wants result true e refuses =
     let yes : is_accepted result.0 ≡ true = ap (λ (r : Receipt × ClusterState). is_accepted r.0) e in
     absurd cc
 refused_by new held wants result false e refuses = refl
 
 old_or_new : (new held : ClusterState) (wants : ℕ) (result : Receipt × ClusterState) (same : Bool)
-    → result ≡ (if same then (Accepted, new) else (Incompatible held.id wants, held)) → (result.1 ≡ held) ⊎ (result.1 ≡ new)
+    → result ≡ outcome new held wants same → (result.1 ≡ held) ⊎ (result.1 ≡ new)
 old_or_new new held wants result true e = inr (ap (λ (r : Receipt × ClusterState). r.1) e)
 old_or_new new held wants result false e = inl (ap (λ (r : Receipt × ClusterState). r.1) e)
 
 pub holds_by_diff : (change : Change) (diff full : Message) (before after : LinkMeaning) → AreMessagesOf change diff full
     → CanTake change.prev change.new before → is_in change.prev before ≡ true → IsAccepted diff before after → Holds change true before after
 holds_by_diff change diff full before after are can there taken =
-    let made = made_by change.new before.held change.prev.id (received before.held diff) (before.held.id == change.prev.id)
-        (diff_comes change diff full before are can) taken.takes in
+    let comes = diff_comes change diff full before are can in
+    let made = made_by change.new before.held change.prev.id (received before.held diff) (before.held.id == change.prev.id) comes taken.takes in
     record {
       sent = ap (λ (b : Bool). b && (before.held.id == change.prev.id)) there ∙ made.0;
       link = taken.link ∙ ap (λ (s : ClusterState). record before { held = s; ready = true; faults = after.faults }) made.1;
@@ -118,60 +118,24 @@ holds_by_diff change diff full before after are can there taken =
 pub diff_not_for : (change : Change) (diff full : Message) (before after : LinkMeaning) → AreMessagesOf change diff full
     → CanTake change.prev change.new before → is_in change.prev before ≡ true → IsRefused diff before after → is_sent_diff change.prev after ≡ false
 diff_not_for change diff full before after are can there refused =
-    let no = refused_by change.new before.held change.prev.id (received before.held diff) (before.held.id == change.prev.id)
-        (diff_comes change diff full before are can) refused.refuses in
+    let comes = diff_comes change diff full before are can in
+    let no = refused_by change.new before.held change.prev.id (received before.held diff) (before.held.id == change.prev.id) comes refused.refuses in
     ap (λ (l : LinkMeaning). is_sent_diff change.prev l) refused.link ∙ (ap (λ (b : Bool). b && (before.held.id == change.prev.id)) there ∙ no)
-
--- ---- two messages, of which the first was refused
-
-fails_after : (before middle after : LinkMeaning) → middle ≡ after_fault before middle.faults → before.faults ≤ middle.faults → Fails middle after → Fails before after
-fails_after before middle after link faults fails = record {
-    rose = omega (arith, fails.rose, faults);
-    can = sym (ap (λ (l : LinkMeaning). l.reliable) link) ∙ fails.can;
-  }
-
-missed_after : (before middle after : LinkMeaning) → middle ≡ after_fault before middle.faults → before.faults ≤ middle.faults → IsMissed middle after → IsMissed before after
-missed_after before middle after link faults missed = record {
-    link = missed.link ∙ ap (λ (l : LinkMeaning). after_fault l after.faults) link;
-    fails = fails_after before middle after link faults missed.fails;
-    faults = omega (arith, faults, missed.faults);
-  }
-
-holds_after : (change : Change) (by_diff : Bool) (before middle after : LinkMeaning) → middle ≡ after_fault before middle.faults → before.faults ≤ middle.faults
-    → Holds change by_diff middle after → Holds change by_diff before after
-holds_after change by_diff before middle after link faults holds = record {
-    sent = sym (ap (λ (l : LinkMeaning). is_sent_diff change.prev l) link) ∙ holds.sent;
-    link = holds.link ∙ ap (λ (l : LinkMeaning). record l { held = change.new; ready = true; faults = after.faults }) link;
-    faults = omega (arith, faults, holds.faults);
-  }
-
-pub brought_after : (change : Change) (message : Message) (before middle after : LinkMeaning) (how : Brought) → IsRefused message before middle
-    → IsBrought change middle after how → IsBrought change before after how
-brought_after change message before middle after brought.ByDiff refused came = holds_after change true before middle after refused.link refused.faults came
-brought_after change message before middle after brought.InFull refused came = holds_after change false before middle after refused.link refused.faults came
-brought_after change message before middle after brought.Missed refused came = missed_after before middle after refused.link refused.faults came
-
-pub old_or_new_after : (new : ClusterState) (message : Message) (before middle after : LinkMeaning) → IsRefused message before middle
-    → HoldsOldOrNew new middle after → HoldsOldOrNew new before after
-old_or_new_after new message before middle after refused holds = record {
-    name = holds.name ∙ ap (λ (l : LinkMeaning). l.name) refused.link;
-    held = elim holds.held [ inl e ↦ inl (e ∙ ap (λ (l : LinkMeaning). l.held) refused.link) | inr e ↦ inr e ];
-  }
 
 -- ---- want of memory
 
 sent_left : (new : ClusterState) (message : Message) (before after : LinkMeaning)
     → ((received before.held message).1 ≡ before.held) ⊎ ((received before.held message).1 ≡ new) → HoldsOldOrSent message before after → HoldsOldOrNew new before after
 sent_left new message before after came left = record {
-    name = ap (λ (l : LinkMeaning). l.name) left.rest;
-    held = elim left.held [ inl e ↦ inl e | inr e ↦ elim came [ inl x ↦ inl (e ∙ x) | inr x ↦ inr (e ∙ x) ] ];
-  }
+  name = ap (λ (l : LinkMeaning). l.name) left.rest;
+  held = elim left.held [ inl e ↦ inl e | inr e ↦ elim came [ inl x ↦ inl (e ∙ x) | inr x ↦ inr (e ∙ x) ] ];
+}
 
 pub diff_left : (change : Change) (diff full : Message) (before after : LinkMeaning) → AreMessagesOf change diff full
     → CanTake change.prev change.new before → HoldsOldOrSent diff before after → HoldsOldOrNew change.new before after
 diff_left change diff full before after are can left =
-    sent_left change.new diff before after
-        (old_or_new change.new before.held change.prev.id (received before.held diff) (before.held.id == change.prev.id) (diff_comes change diff full before are can)) left
+    let comes = diff_comes change diff full before are can in
+    sent_left change.new diff before after (old_or_new change.new before.held change.prev.id (received before.held diff) (before.held.id == change.prev.id) comes) left
 
 pub full_left : (change : Change) (diff full : Message) (before after : LinkMeaning) → AreMessagesOf change diff full
     → HoldsOldOrSent full before after → HoldsOldOrNew change.new before after

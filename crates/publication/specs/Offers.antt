@@ -60,7 +60,8 @@ IsBrought change before after brought.ByDiff = Holds change true before after
 IsBrought change before after brought.InFull = Holds change false before after
 IsBrought change before after brought.Missed = IsMissed before after
 
--- what a node that was sent the new state is told to have answered, by how it was brought, before the commit
+-- the answer of a node that was sent it, before the commit, by how it was brought, whether the node counts for the
+-- majority, and whether it is the master
 abbrev pub is_taken : Brought → Bool
 is_taken brought.ByDiff = true
 is_taken brought.InFull = true

@@ -16,7 +16,6 @@ pub(crate) fn commits(new: &ClusterState, answers: &[Answer]) -> bool
 }
 
 /// How many of those that accepted count for the majority.
-#[tactic(auto, using(crate::proofs::Counting::count_fits))]
 pub(crate) fn count_votes(answers: &[Answer]) -> u64
     ensures count { result ≡ votes_in answers.now }
     ensures few { result < 2 ^ 63 }

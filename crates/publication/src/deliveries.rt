@@ -45,7 +45,6 @@ impl Delivery {
     ghost use Rattle.publication.specs.Deliveries.{diffs_in, fulls_in, votes_in};
 
     /// How many nodes accepted the diff.
-    #[tactic(auto, using(crate::proofs::Counting::count_fits))]
     pub fn diffs(&self) -> u64
         ensures count { result ≡ diffs_in self.now.answers }
         ensures few { result < 2 ^ 63 }
@@ -55,7 +54,6 @@ impl Delivery {
     }
 
     /// How many accepted the whole state.
-    #[tactic(auto, using(crate::proofs::Counting::count_fits))]
     pub fn fulls(&self) -> u64
         ensures count { result ≡ fulls_in self.now.answers }
         ensures few { result < 2 ^ 63 }
