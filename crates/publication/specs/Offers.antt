@@ -1,7 +1,8 @@
 -- What comes of a message, and of a new state, at one link, before it is committed.
-use Rattle.std.specs.Prelude.{◌≡◌, ◌≤◌, Bool, true, false, Some}
+use Rattle.std.specs.Prelude.{◌≡◌, ◌≤◌, ◌&&◌, Bool, true, false, Some}
 use Rattle.meta_state.specs.declared.cluster_state.ClusterState.{ClusterState}
 use Rattle.state_diff.specs.StateDiffs.{applied, state_between}
+use Rattle.publication.specs.declared.deliveries.Answer.{Answer}
 use Rattle.publication.specs.declared.messages.Message.{Message}
 use Rattle.publication.specs.declared.messages.Message.TheVariants.{Full, Diff}
 use Rattle.publication.specs.declared.offers.Offer.{Offer}
@@ -58,3 +59,25 @@ abbrev pub IsBrought : Change → LinkMeaning → LinkMeaning → Brought → Ty
 IsBrought change before after brought.ByDiff = Holds change true before after
 IsBrought change before after brought.InFull = Holds change false before after
 IsBrought change before after brought.Missed = IsMissed before after
+
+-- the answer of a node that was sent it, before the commit, by how it was brought, whether the node counts for the
+-- majority, and whether it is the master
+abbrev pub is_taken : Brought → Bool
+is_taken brought.ByDiff = true
+is_taken brought.InFull = true
+is_taken brought.Missed = false
+
+abbrev pub is_by_diff : Brought → Bool
+is_by_diff brought.ByDiff = true
+is_by_diff brought.InFull = false
+is_by_diff brought.Missed = false
+
+abbrev pub answer_by : Brought → Bool → Bool → Answer
+answer_by how eligible master = record {
+  asked = true;
+  accepted = is_taken how;
+  by_diff = is_by_diff how;
+  votes = is_taken how && eligible;
+  leads = is_taken how && master;
+  handed = false;
+}

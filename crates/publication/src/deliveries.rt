@@ -5,6 +5,7 @@ ghost use Rattle.publication.specs.Deliveries.{CanTake, HoldsOldOrNew, IsDeliver
 ghost use Rattle.publication.specs.Offers.{Change};
 ghost use Rattle.publication.specs.Threes.{AllThree};
 
+use crate::commits::{count_votes, has_leader};
 use crate::links::Link;
 use meta_state::ClusterState;
 use plain_data::{Items, OutOfMemory};
@@ -48,7 +49,8 @@ impl Delivery {
         ensures count { result ≡ diffs_in self.now.answers }
         ensures few { result < 2 ^ 63 }
     {
-        0
+        let answers = self.answers.as_slice();
+        answers.iter().filter(|answer| answer.by_diff).count() as u64
     }
 
     /// How many accepted the whole state.
@@ -56,7 +58,11 @@ impl Delivery {
         ensures count { result ≡ fulls_in self.now.answers }
         ensures few { result < 2 ^ 63 }
     {
-        0
+        let answers = self.answers.as_slice();
+        answers
+            .iter()
+            .filter(|answer| answer.accepted && !answer.by_diff)
+            .count() as u64
     }
 
     /// How many that accepted count for the majority.
@@ -64,14 +70,14 @@ impl Delivery {
         ensures count { result ≡ votes_in self.now.answers }
         ensures few { result < 2 ^ 63 }
     {
-        0
+        count_votes(self.answers.as_slice())
     }
 
     /// Whether the master accepted.
     pub fn has_master(&self) -> bool
         ensures { result ≡ list_any (λ a. a.leads) self.now.answers }
     {
-        false
+        has_leader(self.answers.as_slice())
     }
 }
 

@@ -12,5 +12,7 @@ pub(crate) fn hand_to<L: Link>(new: &ClusterState, link: &mut L, answer: Answer)
     requires bound { new.now.version < 2 ^ 32 }
     ensures { IsHanded (L.meaning link.old) (L.meaning link.new) answer result }
 {
+    let mut answer = answer;
+    answer.handed = answer.accepted && link.hand(new.version).is_ok();
     answer
 }

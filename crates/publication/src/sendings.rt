@@ -1,15 +1,16 @@
-ghost use Rattle.std.specs.Prelude.{◌≡◌, Some, false, IfOk, OnErr, map};
-ghost use Rattle.std.specs.List.{AllByRecursion, AllZip};
+ghost use Rattle.std.specs.Prelude.{◌≡◌, Some, true, false, IfOk, OnErr};
+ghost use Rattle.plain_data.specs.Pairs.{lookup};
+ghost use Rattle.meta_state.specs.Voters.{is_eligible};
 ghost use Rattle.state_diff.specs.StateDiffs.{applied, state_between};
-ghost use Rattle.publication.specs.Deliveries.{CanTake, HoldsOldOrNew, IsDelivered};
-ghost use Rattle.publication.specs.Offers.{IsBrought};
-ghost use Rattle.publication.specs.Threes.{AllThree};
+ghost use Rattle.publication.specs.Deliveries.{CanTake, HoldsOldOrNew, IsDelivered, is_in, is_sent_diff};
+ghost use Rattle.publication.specs.Offers.{IsBrought, answer_by};
 
 use crate::deliveries::Answer;
 use crate::links::Link;
 use crate::messages::Message;
-use meta_state::ClusterState;
-use plain_data::OutOfMemory;
+use crate::offers::{Offer, ask};
+use meta_state::{ClusterState, NodeInfo};
+use plain_data::{Map, OutOfMemory, Text};
 use state_diff::StateDiff;
 use std::alloc::Global;
 use std::marker::Model;
@@ -70,6 +71,90 @@ impl<'a> Outgoing<'a> {
         ensures sent { IfOk result (IsDelivered self.now.prev self.now.new false (L.meaning link.old) (L.meaning link.new)) }
         ensures out_of_memory { OnErr result (HoldsOldOrNew self.now.new (L.meaning link.old) (L.meaning link.new)) }
     {
-        Err(OutOfMemory)
+        if !self.new.nodes.contains_key(link.node()) {
+            return Ok(PASSED_OVER);
+        }
+        let is_eligible = can_vote(&self.new.nodes, link.node());
+        let is_master = *link.node() == self.new.master;
+        let brought = self.bring(link)?;
+        Ok(answer_to(brought, is_eligible, is_master))
+    }
+
+    /// Brings it to the node of a link, by the diff where it was in the state before and has that.
+    fn bring<L: Link>(&self, link: &mut L) -> Result<Brought, OutOfMemory>
+        requires { CanTake self.now.prev self.now.new (L.meaning link.old) }
+        ensures brought { IfOk result (IsBrought self.now (L.meaning link.old) (L.meaning link.new)) }
+        ensures out_of_memory { OnErr result (HoldsOldOrNew self.now.new (L.meaning link.old) (L.meaning link.new)) }
+    {
+        if self.prev.nodes.contains_key(link.node()) {
+            self.bring_diff(link)
+        } else {
+            self.bring_full(link)
+        }
+    }
+
+    /// Sends the diff, and the whole state where the node doesn't have the state before.
+    fn bring_diff<L: Link>(&self, link: &mut L) -> Result<Brought, OutOfMemory>
+        requires takes { CanTake self.now.prev self.now.new (L.meaning link.old) }
+        requires there { is_in self.now.prev (L.meaning link.old) ≡ true }
+        ensures brought { IfOk result (IsBrought self.now (L.meaning link.old) (L.meaning link.new)) }
+        ensures out_of_memory { OnErr result (HoldsOldOrNew self.now.new (L.meaning link.old) (L.meaning link.new)) }
+    {
+        match ask(link, &self.diff)? {
+            Offer::Accepted => Ok(Brought::ByDiff),
+            Offer::Refused => self.bring_full(link),
+            Offer::Missed => Ok(Brought::Missed),
+        }
+    }
+
+    /// Sends the whole state, which every node accepts.
+    fn bring_full<L: Link>(&self, link: &mut L) -> Result<Brought, OutOfMemory>
+        requires { is_sent_diff self.now.prev (L.meaning link.old) ≡ false }
+        ensures brought { IfOk result (IsBrought self.now (L.meaning link.old) (L.meaning link.new)) }
+        ensures out_of_memory { OnErr result (HoldsOldOrNew self.now.new (L.meaning link.old) (L.meaning link.new)) }
+    {
+        match ask(link, &self.full)? {
+            Offer::Accepted => Ok(Brought::InFull),
+            Offer::Refused => unreachable!(),
+            Offer::Missed => Ok(Brought::Missed),
+        }
+    }
+
+    /// Lets it go. In a generic function it isn't dropped in place, since the prover takes very long there.
+    pub(crate) fn close(self) {}
+}
+
+/// The answer of a node that isn't in the new state.
+const PASSED_OVER: Answer = Answer {
+    asked: false,
+    accepted: false,
+    by_diff: false,
+    votes: false,
+    leads: false,
+    handed: false,
+};
+
+/// The answer of a node in the new state, before the commit.
+fn answer_to(brought: Brought, is_eligible: bool, is_master: bool) -> Answer
+    ensures { result ≡ answer_by brought is_eligible is_master }
+{
+    let accepted = !matches!(brought, Brought::Missed);
+    Answer {
+        asked: true,
+        accepted,
+        by_diff: matches!(brought, Brought::ByDiff),
+        votes: accepted && is_eligible,
+        leads: accepted && is_master,
+        handed: false,
+    }
+}
+
+/// Whether a node counts for the majority.
+fn can_vote(nodes: &Map<NodeInfo>, name: &Text) -> bool
+    ensures { result ≡ is_eligible (lookup name.now nodes.now) }
+{
+    match nodes.get(name) {
+        None => false,
+        Some(node) => node.eligible,
     }
 }
