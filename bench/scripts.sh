@@ -1,6 +1,6 @@
 #!/usr/bin/env bash
 # Times the program on long scripts: how long one takes to be read, how much of that is JSON alone, how the report grows
-# with the batches, and what a small change costs where there is much. README.md, beside this file, says how to read
+# with the batches, what a small change costs where there is much, and what publications cost. README.md, beside this file, says how to read
 # what it prints. With words, it runs the scripts alone whose names begin with one of them.
 set -euo pipefail
 
@@ -48,6 +48,26 @@ for count in (350, 700, 1400):
                  "queues": [{"name": queue, "executor": executor} for queue, executor in queues],
                  "clients": [made + steps]}
         open(f"{folder}/{name}_{count}", "w").write(json.dumps(whole, separators=(",", ":")))
+
+def publications(name, nodes, steps):
+    whole = {"version": 1, "cluster": "c", "nodes": [{"name": f"n{k}"} for k in range(nodes)],
+             "queues": [{"name": queue, "executor": executor} for queue, executor in queues + [("glob", "cluster_settings")]],
+             "clients": [steps]}
+    open(f"{folder}/{name}", "w").write(json.dumps(whole, separators=(",", ":")))
+
+# settings set one by one, each published to every node: by their number, and by the number of nodes
+settings = lambda count: [submit("glob", key=f"key-{k % 20}", value=f"{k}") for k in range(count)]
+for count in (125, 250, 500):
+    publications(f"publish_{count}", 30, settings(count))
+for nodes in (7, 14, 28):
+    publications(f"nodes_{nodes}", nodes, settings(500))
+# n indices are created on four nodes, alone, and with 700 changes of the last of them behind
+for count in (175, 350, 700):
+    made = [submit("make", index=f"index-{k:04}") for k in range(count)]
+    last = f"index-{count - 1:04}"
+    changes = [submit("set", index=last, key="index.number_of_replicas", value=k % 999 + 2) for k in range(700)]
+    publications(f"made_{count}", 4, made)
+    publications(f"among_{count}", 4, made + changes)
 PYTHON
 
 wanted() {
@@ -70,6 +90,8 @@ instructions_of() {
 program=$top/crates/esmaster/out/esmaster
 names="steps_read steps_json_alone batches_707 batches_1414 batches_2828"
 for kind in replicas unchanged aliases; do names="$names ${kind}_350 ${kind}_700 ${kind}_1400"; done
+names="$names publish_125 publish_250 publish_500 nodes_7 nodes_14 nodes_28"
+for kind in made among; do names="$names ${kind}_175 ${kind}_350 ${kind}_700"; done
 for name in $names; do
     wanted "$name" "$@" || continue
     best=
