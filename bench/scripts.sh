@@ -1,7 +1,7 @@
 #!/usr/bin/env bash
 # Times the program on long scripts: how long one takes to be read, how much of that is JSON alone, how the report grows
-# with the batches, what a small change costs where there is much, and what publications cost. README.md, beside this file, says how to read
-# what it prints. With words, it runs the scripts alone whose names begin with one of them.
+# with the batches, what a small change costs where there is much, and what publications cost. README.md, beside this
+# file, says how to read what it prints. With words, it runs the scripts alone whose names begin with one of them.
 set -euo pipefail
 
 top=$(cd "$(dirname "$0")/.." && pwd)
