@@ -1,4 +1,6 @@
 -- Lemmas that the proofs of this crate and of those above share.
 pub mod Failures
+pub mod Holding
 pub mod Targets
 pub mod Threes
+pub mod Walks

@@ -10,6 +10,10 @@ pub record IsReadyFor (new : ClusterState) (link : LinkMeaning) : Type 0 where
   pub ready : IsTrue link.ready
   pub room : 0 < link.room
 
+-- where its node accepted the new state, a link can be handed it
+abbrev pub CanBeHanded : ClusterState → LinkMeaning → Answer → Type 0
+CanBeHanded new link answer = answer.accepted ≡ true → IsReadyFor new link
+
 -- a link after a commit that its node got, or didn't
 abbrev pub handed_link : LinkMeaning → Bool → ℕ → LinkMeaning
 handed_link link got count =

@@ -72,4 +72,7 @@ impl<'a> Outgoing<'a> {
     {
         Err(OutOfMemory)
     }
+
+    /// Ends it.
+    pub(crate) fn close(self) {}
 }

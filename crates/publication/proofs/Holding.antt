@@ -1,0 +1,20 @@
+-- What a node holds after a delivery.
+use Rattle.std.specs.Prelude.{◌≡◌, Bool, true, false, refl}
+use Rattle.std.proofs.Common.{ap, inl, inr}
+use Rattle.meta_state.specs.declared.cluster_state.ClusterState.{ClusterState}
+use Rattle.publication.specs.declared.deliveries.Answer.{Answer}
+use Rattle.publication.specs.Deliveries.{HoldsOldOrNew, IsDelivered, held_if}
+use Rattle.publication.specs.LinkMeanings.{LinkMeaning}
+
+-- it is what it held, or the new state
+pub holds_what_it_held : (new : ClusterState) (link : LinkMeaning) → HoldsOldOrNew new link link
+holds_what_it_held new link = record { name = refl; held = inl refl }
+
+holds_by : (new : ClusterState) (before after : LinkMeaning) (took : Bool) → after.name ≡ before.name → after.held ≡ held_if new before took → HoldsOldOrNew new before after
+holds_by new before after true name held = record { name = name; held = inr held }
+holds_by new before after false name held = record { name = name; held = inl held }
+
+pub delivered_holds : (prev new : ClusterState) (commits : Bool) (before after : LinkMeaning) (answer : Answer) → IsDelivered prev new commits before after answer
+    → HoldsOldOrNew new before after
+delivered_holds prev new commits before after answer is =
+    holds_by new before after answer.accepted (ap (λ l. l.name) is.link) (ap (λ l. l.held) is.link)
