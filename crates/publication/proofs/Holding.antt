@@ -1,10 +1,12 @@
 -- What a node holds after a delivery.
-use Rattle.std.specs.Prelude.{◌≡◌, Bool, true, false, refl}
+use Rattle.std.specs.Prelude.{◌≡◌, Bool, true, false, List, map, refl}
+use Rattle.std.specs.List.{AllZip}
 use Rattle.std.proofs.Common.{ap, inl, inr}
 use Rattle.meta_state.specs.declared.cluster_state.ClusterState.{ClusterState}
 use Rattle.publication.specs.declared.deliveries.Answer.{Answer}
 use Rattle.publication.specs.Deliveries.{HoldsOldOrNew, IsDelivered, held_if}
 use Rattle.publication.specs.LinkMeanings.{LinkMeaning}
+use Rattle.publication.proofs.Walks.{each_itself}
 
 -- it is what it held, or the new state
 pub holds_what_it_held : (new : ClusterState) (link : LinkMeaning) → HoldsOldOrNew new link link
@@ -18,3 +20,7 @@ pub delivered_holds : (prev new : ClusterState) (commits : Bool) (before after :
     → HoldsOldOrNew new before after
 delivered_holds prev new commits before after answer is =
     holds_by new before after answer.accepted (ap (λ l. l.name) is.link) (ap (λ l. l.held) is.link)
+
+-- where nothing was sent
+pub all_hold_what_they_held : {L : Type 0} (f : L → LinkMeaning) (new : ClusterState) (links : List L) → AllZip (HoldsOldOrNew new) (map f links) (map f links)
+all_hold_what_they_held f new links = each_itself f (HoldsOldOrNew new) (holds_what_it_held new) links links refl

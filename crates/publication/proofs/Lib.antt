@@ -1,6 +1,7 @@
 -- Lemmas that the proofs of this crate and of those above share.
 pub mod Failures
 pub mod Holding
+pub mod Settling
 pub mod Targets
 pub mod Threes
 pub mod Walks
