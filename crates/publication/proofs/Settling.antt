@@ -164,20 +164,3 @@ settled_at prev new before mid after was delivery sent is false e = record {
 pub delivery_settled : (prev new : ClusterState) (before mid after : List LinkMeaning) (was : List Answer) (delivery : Delivery)
     → AllThree (IsDelivered prev new false) before mid was → IsSettled new mid after was delivery → IsDelivery prev new before after delivery
 delivery_settled prev new before mid after was delivery sent is = settled_at prev new before mid after was delivery sent is delivery.commits refl
-
--- links that weren't handed anything, since it doesn't commit
-pub kept_is_settled : (new : ClusterState) (links : List LinkMeaning) (answers : List Answer) → does_commit new answers ≡ false
-    → IsSettled new links links answers (record { commits = false; answers = answers })
-kept_is_settled new links answers e = record {
-  commits = sym e;
-  handed = λ e. absurd cc;
-  kept = λ e. (refl, refl);
-}
-
-pub handed_is_settled : (new : ClusterState) (before after : List LinkMeaning) (was is_now : List Answer) → does_commit new was ≡ true → AllFour IsHanded before after was is_now
-    → IsSettled new before after was (record { commits = true; answers = is_now })
-handed_is_settled new before after was is_now e hands = record {
-  commits = sym e;
-  handed = λ e. hands;
-  kept = λ e. absurd cc;
-}

@@ -83,7 +83,7 @@ impl Delivery {
 /// eligible nodes accepted it, and then hands each node that accepted the commit. Both messages are made before the
 /// first is sent. After want of memory each node holds what it held, or the new state, and the session is to be given
 /// up.
-#[tactic(auto, using(crate::proofs::Holding::all_hold_what_they_held, crate::proofs::Settling::can_all_be_handed, crate::proofs::Settling::delivery_settled))]
+#[tactic(auto, using(crate::proofs::Holding::all_hold_what_they_held, crate::proofs::Settling::can_all_be_handed))]
 pub fn deliver<L: Link>(
     alloc: Global,
     prev: &ClusterState,
@@ -139,7 +139,7 @@ fn no_answers(alloc: Global, count: usize) -> Result<Vec<Answer>, OutOfMemory>
 
 /// Decides whether a new state that was sent over links is committed, and if so hands each node that accepted it the
 /// commit.
-#[tactic(auto, using(crate::proofs::Settling::kept_is_settled))]
+
 fn settle<L: Link>(new: &ClusterState, links: &mut [L], answers: Vec<Answer>) -> Delivery
     requires places { length answers.items ≡ length links.old }
     requires ready { AllZip (CanBeHanded new.now) (map L.meaning links.old) answers.items }
