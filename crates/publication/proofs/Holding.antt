@@ -32,7 +32,7 @@ pub all_delivered_hold : (prev new : ClusterState) (commits : Bool) (before afte
     → AllThree (IsDelivered prev new commits) before after answers → AllZip (HoldsOldOrNew new) before after
 all_delivered_hold prev new commits before after answers all =
     three_by (IsDelivered prev new commits) (λ before after answers. AllZip (HoldsOldOrNew new) before after) tt
-        (λ b a answer more_b more_a more is each rest. (delivered_holds prev new commits b a answer is, rest)) before after answers all
+    (λ b a answer more_b more_a more is each rest. (delivered_holds prev new commits b a answer is, rest)) before after answers all
 
 pub delivery_holds : (prev new : ClusterState) (before after : List LinkMeaning) (delivery : Delivery) → IsDelivery prev new before after delivery
     → AllZip (HoldsOldOrNew new) before after

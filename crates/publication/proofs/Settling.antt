@@ -45,7 +45,7 @@ pub can_all_be_handed : (prev new : ClusterState) (before after : List LinkMeani
     → AllThree (IsDelivered prev new false) before after answers → AllZip (CanBeHanded new) after answers
 can_all_be_handed prev new before after answers can all =
     three_by (IsDelivered prev new false) (λ before after answers. AllByRecursion (CanTake prev new) before → AllZip (CanBeHanded new) after answers)
-        (λ can. tt) (λ b a w more_b more_a more_w is each rest can. (can_be_handed prev new b a w can.0 is, rest can.1)) before after answers all can
+    (λ can. tt) (λ b a w more_b more_a more_w is each rest can. (can_be_handed prev new b a w can.0 is, rest can.1)) before after answers all can
 
 -- ---- one link
 
@@ -65,9 +65,9 @@ handed_over : (prev new : ClusterState) (before mid after : LinkMeaning) (was is
 handed_over prev new before mid after was is_now is took rest over =
     let took_now : is_now.accepted ≡ true = ap (λ (a : Answer). a.accepted) rest ∙ took in
     let told : is_now ≡ answer_of prev new before true is_now.handed =
-      rest ∙ ap (λ (a : Answer). record a { handed = is_now.handed }) is.told ∙ ap (λ t. answer_of prev new before t is_now.handed) took in
+    rest ∙ ap (λ (a : Answer). record a { handed = is_now.handed }) is.told ∙ ap (λ t. answer_of prev new before t is_now.handed) took in
     let link : after ≡ link_after new before true is_now.handed after.faults =
-      over.link ∙ handed_is_after prev new before mid after.faults (sent_link prev new before mid was is took) is_now.handed in
+    over.link ∙ handed_is_after prev new before mid after.faults (sent_link prev new before mid was is took) is_now.handed in
     record {
       told = told ∙ ap (λ t. answer_of prev new before t is_now.handed) (sym took_now);
       link = link ∙ ap (λ t. link_after new before t is_now.handed after.faults) (sym took_now);
@@ -145,7 +145,7 @@ commits_same : (new : ClusterState) (mid after : List LinkMeaning) (was is_now :
     → does_commit new is_now ≡ does_commit new was
 commits_same new mid after was is_now hands =
     ap₂ (λ x n. x && is_majority new.nodes n) (any_same (λ a. a.leads) (λ a got. refl) mid after was is_now hands)
-        (count_same (λ a. a.votes) (λ a got. refl) 0 mid after was is_now hands)
+    (count_same (λ a. a.votes) (λ a got. refl) 0 mid after was is_now hands)
 
 settled_at : (prev new : ClusterState) (before mid after : List LinkMeaning) (was : List Answer) (delivery : Delivery) → AllThree (IsDelivered prev new false) before mid was
     → IsSettled new mid after was delivery → (commits : Bool) → delivery.commits ≡ commits → IsDelivery prev new before after delivery
@@ -158,7 +158,7 @@ settled_at prev new before mid after was delivery sent is false e = record {
   commits = is.commits ∙ ap (does_commit new) (sym (is.kept e).1);
   each = subst (λ c. AllThree (IsDelivered prev new c) before after delivery.answers) (sym e)
       (subst (λ answers. AllThree (IsDelivered prev new false) before after answers) (sym (is.kept e).1)
-          (subst (λ links. AllThree (IsDelivered prev new false) before links was) (sym (is.kept e).0) sent));
+      (subst (λ links. AllThree (IsDelivered prev new false) before links was) (sym (is.kept e).0) sent));
 }
 
 pub delivery_settled : (prev new : ClusterState) (before mid after : List LinkMeaning) (was : List Answer) (delivery : Delivery)

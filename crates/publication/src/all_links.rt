@@ -1,4 +1,4 @@
-ghost use Rattle.std.specs.Prelude.{◌≡◌, ◌<◌, ◌^◌, true, false, IfOk, OnOk, OnErr, length, map};
+ghost use Rattle.std.specs.Prelude.{◌≡◌, ◌<◌, ◌^◌, false, OnOk, OnErr, length, map};
 ghost use Rattle.std.specs.List.{AllByRecursion, AllZip};
 ghost use Rattle.publication.specs.Deliveries.{CanTake, HoldsOldOrNew, IsDelivered};
 ghost use Rattle.publication.specs.Fours.{AllFour};
@@ -11,10 +11,8 @@ use crate::links::Link;
 use crate::sendings::Outgoing;
 use meta_state::ClusterState;
 use plain_data::OutOfMemory;
-use std::alloc::Global;
 
-/// Sends a new state over each link. There is an answer for each, in which what is here before counts for nothing.
-
+/// Sends a new state over each link. What comes of it at each is written at its place among the answers.
 pub(crate) fn send_all<L: Link>(
     outgoing: &Outgoing,
     links: &mut [L],
@@ -25,8 +23,8 @@ pub(crate) fn send_all<L: Link>(
     ensures sent { OnOk result (AllThree (IsDelivered outgoing.now.prev outgoing.now.new false) (map L.meaning links.old) (map L.meaning links.new) answers.new) }
     ensures out_of_memory { OnErr result (AllZip (HoldsOldOrNew outgoing.now.new) (map L.meaning links.old) (map L.meaning links.new)) }
 {
-    for (i, link) in links.iter_mut().enumerate() {
-        answers[i] = outgoing.send(link)?;
+    for (place, link) in links.iter_mut().enumerate() {
+        answers[place] = outgoing.send(link)?;
     }
     Ok(())
 }
@@ -38,7 +36,7 @@ pub(crate) fn hand_all<L: Link>(new: &ClusterState, links: &mut [L], answers: &m
     requires bound { new.now.version < 2 ^ 32 }
     ensures { AllFour IsHanded (map L.meaning links.old) (map L.meaning links.new) answers.old answers.new }
 {
-    for (i, link) in links.iter_mut().enumerate() {
-        answers[i] = hand_to(new, link, answers[i]);
+    for (place, link) in links.iter_mut().enumerate() {
+        answers[place] = hand_to(new, link, answers[place]);
     }
 }

@@ -1,7 +1,7 @@
 ghost use Rattle.std.specs.Prelude.{◌≡◌, ◌<◌, ◌^◌, Some, IfOk, OnErr, false, length, map};
 ghost use Rattle.std.specs.List.{AllByRecursion, AllZip};
 ghost use Rattle.state_diff.specs.StateDiffs.{applied, state_between};
-ghost use Rattle.publication.specs.Deliveries.{CanTake, HoldsOldOrNew, IsDelivered, IsDelivery, does_commit};
+ghost use Rattle.publication.specs.Deliveries.{CanTake, HoldsOldOrNew, IsDelivered, IsDelivery};
 ghost use Rattle.publication.specs.Handings.{CanBeHanded, IsSettled};
 ghost use Rattle.publication.specs.Threes.{AllThree};
 
@@ -139,7 +139,6 @@ fn no_answers(alloc: Global, count: usize) -> Result<Vec<Answer>, OutOfMemory>
 
 /// Decides whether a new state that was sent over links is committed, and if so hands each node that accepted it the
 /// commit.
-
 fn settle<L: Link>(new: &ClusterState, links: &mut [L], answers: Vec<Answer>) -> Delivery
     requires places { length answers.items ≡ length links.old }
     requires ready { AllZip (CanBeHanded new.now) (map L.meaning links.old) answers.items }

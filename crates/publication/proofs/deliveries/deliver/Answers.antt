@@ -11,4 +11,4 @@ returns-clause-delivered g c =
     let before = map g.L.Link.meaning c.args.links.now in
     let sent = map g.L.Link.meaning c.send-sent.new.links in
     delivery_settled c.args.prev.now c.args.new.now before sent (map g.L.Link.meaning c.settle.new.links) answers c.settle.result
-        (subst (λ (change : Change). AllThree (IsDelivered change.prev change.new false) before sent answers) c.in_ok-outgoing.ensures c.in_ok-answers.ensures.sent) c.settle.ensures
+    (subst (λ (change : Change). AllThree (IsDelivered change.prev change.new false) before sent answers) c.in_ok-outgoing.ensures c.in_ok-answers.ensures.sent) c.settle.ensures
