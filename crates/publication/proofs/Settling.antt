@@ -1,15 +1,14 @@
 -- A new state that was sent over links, and then handed over them where it commits, was delivered over them.
-use Rattle.std.specs.Prelude.{◌≡◌, ◌≤◌, ◌<◌, ◌+◌, ◌-◌, ◌++◌, ◌&&◌, ◌||◌, ℕ, Bool, true, false, not, List, [], ◌∷◌, cond, fold, refl}
+use Rattle.std.specs.Prelude.{◌≡◌, ◌≤◌, ◌<◌, ◌+◌, ◌&&◌, ◌||◌, ℕ, Bool, true, false, List, [], ◌∷◌, cond, fold, refl}
 use Rattle.std.specs.List.{AllByRecursion, AllZip, list_any}
 use Rattle.std.proofs.Common.{sym, ap, ap₂, subst, ◌∙◌, arith}
-use Rattle.edge_io.specs.Causes.{Rose}
 use Rattle.meta_state.specs.declared.cluster_state.ClusterState.{ClusterState}
 use Rattle.meta_state.specs.Voters.{is_majority}
 use Rattle.publication.specs.declared.deliveries.Answer.{Answer}
 use Rattle.publication.specs.declared.deliveries.Delivery.{Delivery}
-use Rattle.publication.specs.Deliveries.{CanTake, IsDelivered, IsDelivery, answer_of, does_commit, link_after, votes_in}
+use Rattle.publication.specs.Deliveries.{CanTake, IsDelivered, IsDelivery, answer_of, does_commit, link_after}
 use Rattle.publication.specs.Fours.{AllFour}
-use Rattle.publication.specs.Handings.{CanBeHanded, IsHanded, IsHandedOver, IsReadyFor, IsSettled, handed_link}
+use Rattle.publication.specs.Handings.{CanBeHanded, IsHanded, IsHandedOver, IsSettled, handed_link}
 use Rattle.publication.specs.LinkMeanings.{Fails, LinkMeaning}
 use Rattle.publication.specs.Threes.{AllThree}
 use Rattle.publication.proofs.Threes.{three_by}

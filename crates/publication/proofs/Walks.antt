@@ -1,5 +1,5 @@
 -- A walk over links by their index: the places before the index are done, and the others are as they were.
-use Rattle.std.specs.Prelude.{◌≡◌, ◌+◌, ◌<◌, ℕ, zero, suc, List, [], ◌∷◌, length, map, refl}
+use Rattle.std.specs.Prelude.{◌≡◌, ◌+◌, ◌<◌, ℕ, zero, suc, List, [], ◌∷◌, length, map}
 use Rattle.std.specs.List.{AllByRecursion, AllZip, slice_index_or, slice_set}
 use Rattle.std.proofs.Common.{subst, add-one, arith}
 use Rattle.publication.specs.Fours.{AllFour}
