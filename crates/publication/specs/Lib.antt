@@ -1,5 +1,6 @@
 -- What the contracts of this crate cite.
 pub mod Deliveries
+pub mod Fours
 pub mod Handings
 pub mod InMemory
 pub mod LinkMeanings

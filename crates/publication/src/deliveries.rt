@@ -1,12 +1,14 @@
-ghost use Rattle.std.specs.Prelude.{◌≡◌, ◌<◌, ◌^◌, Some, IfOk, OnErr, map};
+ghost use Rattle.std.specs.Prelude.{◌≡◌, ◌<◌, ◌^◌, Some, IfOk, OnErr, false, length, map};
 ghost use Rattle.std.specs.List.{AllByRecursion, AllZip};
 ghost use Rattle.state_diff.specs.StateDiffs.{applied, state_between};
-ghost use Rattle.publication.specs.Deliveries.{CanTake, HoldsOldOrNew, IsDelivered, IsDelivery, does_commit};
-ghost use Rattle.publication.specs.Offers.{Change};
+ghost use Rattle.publication.specs.Deliveries.{CanTake, HoldsOldOrNew, IsDelivered, IsDelivery};
+ghost use Rattle.publication.specs.Handings.{CanBeHanded, IsSettled};
 ghost use Rattle.publication.specs.Threes.{AllThree};
 
-use crate::commits::{count_votes, has_leader};
+use crate::all_links::{hand_all, send_all};
+use crate::commits::{commits, count_votes, has_leader};
 use crate::links::Link;
+use crate::sendings::Outgoing;
 use meta_state::ClusterState;
 use plain_data::{Items, OutOfMemory};
 use state_diff::StateDiff;
@@ -31,6 +33,16 @@ pub struct Answer {
     /// Whether it was handed the commit.
     pub handed: bool,
 }
+
+/// The answer of a node that isn't sent the new state.
+pub(crate) const NOT_ASKED: Answer = Answer {
+    asked: false,
+    accepted: false,
+    by_diff: false,
+    votes: false,
+    leads: false,
+    handed: false,
+};
 
 /// What came of a publication: whether it committed, and what came of it at each link, in their order.
 #[derive(Debug, Drop)]
@@ -86,6 +98,7 @@ impl Delivery {
 /// eligible nodes accepted it, and then hands each node that accepted the commit. Both messages are made before the
 /// first is sent. After want of memory each node holds what it held, or the new state, and the session is to be given
 /// up.
+#[tactic(auto, using(crate::proofs::Holding::all_hold_what_they_held, crate::proofs::Settling::can_all_be_handed))]
 pub fn deliver<L: Link>(
     alloc: Global,
     prev: &ClusterState,
@@ -100,5 +113,52 @@ pub fn deliver<L: Link>(
     ensures delivered { IfOk result (IsDelivery prev.now new.now (map L.meaning links.old) (map L.meaning links.new)) }
     ensures out_of_memory { OnErr result (AllZip (HoldsOldOrNew new.now) (map L.meaning links.old) (map L.meaning links.new)) }
 {
-    Err(OutOfMemory)
+    let outgoing = Outgoing::new(alloc, prev, new, diff)?;
+    let sent = send(alloc, &outgoing, links);
+    outgoing.close();
+    let answers = sent?;
+    Ok(settle(new, links, answers))
+}
+
+/// Sends a new state over links, with an answer for each.
+#[tactic(auto, using(crate::proofs::Holding::all_hold_what_they_held))]
+fn send<L: Link>(
+    alloc: Global,
+    outgoing: &Outgoing,
+    links: &mut [L],
+) -> Result<Vec<Answer>, OutOfMemory>
+    requires { AllByRecursion (CanTake outgoing.now.prev outgoing.now.new) (map L.meaning links.old) }
+    ensures sent { IfOk result (λ answers. AllThree (IsDelivered outgoing.now.prev outgoing.now.new false) (map L.meaning links.old) (map L.meaning links.new) answers.items) }
+    ensures places { IfOk result (λ answers. length answers.items ≡ length links.new) }
+    ensures out_of_memory { OnErr result (AllZip (HoldsOldOrNew outgoing.now.new) (map L.meaning links.old) (map L.meaning links.new)) }
+{
+    let mut answers = no_answers(alloc, links.len())?;
+    send_all(outgoing, links, &mut answers)?;
+    Ok(answers)
+}
+
+/// So many answers, of links that weren't asked.
+fn no_answers(alloc: Global, count: usize) -> Result<Vec<Answer>, OutOfMemory>
+    ensures { IfOk result (λ answers. length answers.items ≡ count) }
+{
+    Ok(vec![in alloc; NOT_ASKED; count]?)
+}
+
+/// Decides whether a new state that was sent over links is committed, and if so hands each node that accepted it the
+/// commit.
+fn settle<L: Link>(new: &ClusterState, links: &mut [L], answers: Vec<Answer>) -> Delivery
+    requires places { length answers.items ≡ length links.old }
+    requires ready { AllZip (CanBeHanded new.now) (map L.meaning links.old) answers.items }
+    requires bound { new.now.version < 2 ^ 32 }
+    ensures { IsSettled new.now (map L.meaning links.old) (map L.meaning links.new) answers.items result }
+{
+    let mut answers = answers;
+    let commits = commits(new, &answers);
+    if commits {
+        hand_all(new, links, &mut answers);
+    }
+    Delivery {
+        commits,
+        answers: Items::from_vec(answers),
+    }
 }

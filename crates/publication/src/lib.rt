@@ -2,6 +2,7 @@
 //! them, and the publication of a state over links.
 #![tactic(auto)]
 
+mod all_links;
 mod commits;
 mod deliveries;
 mod handings;

@@ -5,7 +5,7 @@ ghost use Rattle.state_diff.specs.StateDiffs.{applied, state_between};
 ghost use Rattle.publication.specs.Deliveries.{CanTake, HoldsOldOrNew, IsDelivered, is_in, is_sent_diff};
 ghost use Rattle.publication.specs.Offers.{IsBrought, answer_by};
 
-use crate::deliveries::Answer;
+use crate::deliveries::{Answer, NOT_ASKED};
 use crate::links::Link;
 use crate::messages::Message;
 use crate::offers::{Offer, ask};
@@ -72,7 +72,7 @@ impl<'a> Outgoing<'a> {
         ensures out_of_memory { OnErr result (HoldsOldOrNew self.now.new (L.meaning link.old) (L.meaning link.new)) }
     {
         if !self.new.nodes.contains_key(link.node()) {
-            return Ok(PASSED_OVER);
+            return Ok(NOT_ASKED);
         }
         let is_eligible = can_vote(&self.new.nodes, link.node());
         let is_master = *link.node() == self.new.master;
@@ -123,16 +123,6 @@ impl<'a> Outgoing<'a> {
     /// Lets it go. In a generic function it isn't dropped in place, since the prover takes very long there.
     pub(crate) fn close(self) {}
 }
-
-/// The answer of a node that isn't in the new state.
-const PASSED_OVER: Answer = Answer {
-    asked: false,
-    accepted: false,
-    by_diff: false,
-    votes: false,
-    leads: false,
-    handed: false,
-};
 
 /// The answer of a node in the new state, before the commit.
 fn answer_to(brought: Brought, is_eligible: bool, is_master: bool) -> Answer

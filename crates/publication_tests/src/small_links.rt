@@ -67,10 +67,10 @@ fn write_number(line: &mut String, before: &str, number: u64) -> Result<(), OutO
     Ok(())
 }
 
-fn write_places(line: &mut String, word: &str, places: &[u32]) -> Result<(), OutOfMemory> {
+fn write_places(line: &mut String, word: &str, places: &[u64]) -> Result<(), OutOfMemory> {
     line.push_str(word)?;
     for place in places {
-        write_number(line, " ", u64::from(*place))?;
+        write_number(line, " ", *place)?;
     }
     Ok(())
 }
