@@ -1,11 +1,10 @@
 -- What a refused message leaves: what is held, and whether this is ready to be handed.
-use Rattle.std.specs.Prelude.{◌≡◌, ◌≤◌, ℕ, Bool, true, false, ◌||◌, Option, Some, None, refl}
+use Rattle.std.specs.Prelude.{◌≡◌, ◌≤◌, ℕ, Bool, false, ◌||◌, Option, Some, None, refl}
 use Rattle.std.proofs.Common.{sym, ap, ◌∙◌}
 use Rattle.meta_state.specs.declared.cluster_state.ClusterState.{ClusterState}
 use Rattle.state_diff.specs.declared.state_diffs.DiffParts.{DiffParts}
 use Rattle.publication.specs.declared.messages.Message.{Message}
 use Rattle.publication.specs.declared.messages.Message.TheVariants.{Full, Diff}
-use Rattle.publication.specs.declared.receipts.Receipt.{Receipt}
 use Rattle.publication.specs.declared.receipts.Receipt.TheVariants.{Incompatible}
 use Rattle.publication.specs.LinkMeanings.{LinkMeaning, after_fault, after_message}
 use Rattle.publication.specs.Messages.{is_accepted, made_of, received, received_diff}

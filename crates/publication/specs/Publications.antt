@@ -1,5 +1,5 @@
 -- A publication, as its caller is told of it: by the places of the links, from 0.
-use Rattle.std.specs.Prelude.{◌≡◌, ◌+◌, ℕ, Bool, true, false, List, [], ◌∷◌, if◌then◌else◌}
+use Rattle.std.specs.Prelude.{◌≡◌, ◌+◌, ℕ, Bool, List, [], ◌∷◌, if◌then◌else◌}
 use Rattle.meta_state.specs.declared.cluster_state.ClusterState.{ClusterState}
 use Rattle.publication.specs.declared.deliveries.Answer.{Answer}
 use Rattle.publication.specs.declared.deliveries.Delivery.{Delivery}

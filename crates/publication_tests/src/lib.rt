@@ -12,6 +12,5 @@ pub use small_states::state_with;
 
 #[cfg(test)]
 mod diff_calls;
-
 #[cfg(test)]
 mod link_calls;
