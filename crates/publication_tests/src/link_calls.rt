@@ -132,7 +132,7 @@ fn each_node_holds_the_last_state_and_was_handed_each(rt: HostRuntime) -> Result
         for state in link.handed() {
             versions.push(state.version)?;
         }
-        assert_eq!(rt; versions.as_slice(), &[2, 3, 4]);
+        assert_eq!(rt; versions.as_slice(), [2, 3, 4].as_slice());
         assert_eq!(rt; link.room(), 1);
         assert_eq!(rt; link.faults(), 0);
     }
