@@ -18,10 +18,11 @@ use Rattle.executors.proofs.Counts.{AreCounted}
 use Rattle.session_law.specs.declared.batches.Batch.{Batch}
 use Rattle.session_law.specs.declared.worlds.NodeWorld.{NodeWorld}
 use Rattle.session_law.specs.declared.worlds.World.{World}
-use Rattle.session_law.specs.Histories.{AreApart, IsApart, IsKept, IsOwn, Queued, is_own_step, queued_of, step_at, world_after}
-use Rattle.session_law.proofs.Counts.{IsCounted, placed_count, world_counted}
-use Rattle.master_run.specs.Rooms.{CanSend, HasRoom}
-use Rattle.master_run.proofs.Keeping.{both_first, both_second, no_some, some_same}
+use Rattle.session_law.specs.Histories.{AreApart, IsApart, IsOrdered, IsOwn, Queued, is_own_step, queued_of, step_at}
+use Rattle.session_law.proofs.Counts.{IsCounted, placed_count}
+use Rattle.master_run.specs.Ledgers.{IsLedger}
+use Rattle.master_run.specs.Rooms.{CanPublish, HasRoom}
+use Rattle.master_run.proofs.Keeping.{both_first, both_second, false_from, no_some, some_same}
 
 -- ---- what a test of all elements says of one
 
@@ -29,10 +30,6 @@ pub all_get : {A : Type 0} (p : A → Bool) (xs : List A) (i : ℕ) (x : A) → 
 all_get p [] i x all e = absurd (no_some x e)
 all_get p (y ∷ ys) zero x all e = ap p (sym (some_same y x e)) ∙ both_first (p y) (list_all p ys) all
 all_get p (y ∷ ys) (suc i) x all e = all_get p ys i x (both_second (p y) (list_all p ys) all) e
-
-pub false_from : (b : Bool) → (b ≡ true → ⊥) → b ≡ false
-false_from true never = absurd (never refl)
-false_from false never = refl
 
 -- ---- where the step of an own entry stands
 
@@ -128,11 +125,14 @@ codes_below (placed ∷ all) ws q h =
     (λ e. let same = (unsigned_Decides q (placed.entry.client * 4096 + placed.entry.step)).0 e in let c = ws.0.client in let s = ws.0.step in omega arith)
     (codes_below all ws.1 q)
 
-pub entries_few : (script : Script) (batches : List Batch) (end : World) → IsScript script → IsKept script batches end → length (queued_of batches) ≤ 131072
-entries_few script batches end valid kept =
-    let ws = all_within script (queued_of batches) valid kept.serial.own in
-    let few = length-le_from_distinct_below (map code_of (queued_of batches)) 131072 (codes_distinct (queued_of batches) ws kept.serial.apart) (codes_below (queued_of batches) ws) in
-    subst (λ (n : ℕ). n ≤ 131072) (length-map (queued_of batches) code_of) few
+pub own_few : (script : Script) (all : List Queued) → IsScript script → AllByRecursion (IsOwn script) all → AreApart all → length all ≤ 131072
+own_few script all valid own apart =
+    let ws = all_within script all valid own in
+    let few = length-le_from_distinct_below (map code_of all) 131072 (codes_distinct all ws apart) (codes_below all ws) in
+    subst (λ (n : ℕ). n ≤ 131072) (length-map all code_of) few
+
+pub entries_few : (script : Script) (batches : List Batch) → IsScript script → IsOrdered script batches → length (queued_of batches) ≤ 131072
+entries_few script batches valid order = own_few script (queued_of batches) valid order.own order.apart
 
 filled_few : (batches : List Batch) → AllByRecursion (λ b. 0 < length b.entries) batches → length batches ≤ length (queued_of batches)
 filled_few [] filled = omega arith
@@ -145,7 +145,7 @@ roomy_indices : (n : ℕ) (indices : List (List ℕ × IndexMetadata)) → n ≤
 roomy_indices n [] h c = tt
 roomy_indices n (p ∷ ps) h c = (record { version = let x = c.0.version in omega arith; settings_version = let x = c.0.settings_version in omega arith; aliases_version = let x = c.0.aliases_version in omega arith }, roomy_indices n ps h c.1)
 
-can_send : (p : ℕ) (nodes : List NodeWorld) → p ≤ 131072 → AllByRecursion (λ node. node.sent ≤ p) nodes → AllByRecursion CanSend nodes
+can_send : (p : ℕ) (nodes : List NodeWorld) → p ≤ 131072 → AllByRecursion (λ node. node.sent ≤ p) nodes → AllByRecursion CanPublish nodes
 can_send p [] h c = tt
 can_send p (node ∷ nodes) h c = ((let x = c.0 in omega arith), can_send p nodes h c.1)
 
@@ -163,14 +163,21 @@ room_of n p world h k c = record {
   sent = can_send p world.nodes k c.sent;
 }
 
-pub kept_has_room : (script : Script) (batches : List Batch) (end : World) → IsScript script → IsKept script batches end → HasRoom end
-kept_has_room script batches end valid kept =
-    let few = entries_few script batches end valid kept in
-    let fewer = filled_few batches kept.serial.filled in
-    subst HasRoom (sym kept.world) (room_of (length (queued_of batches)) (length batches) (world_after script batches) few (omega arith) (world_counted script batches))
+pub ledger_has_room : (script : Script) (batches : List Batch) (world : World) → IsScript script → IsOrdered script batches → IsLedger batches world → HasRoom world
+ledger_has_room script batches world valid order ledger =
+    let few = entries_few script batches valid order in
+    let fewer = filled_few batches order.filled in
+    room_of (length (queued_of batches)) (length batches) world few (omega arith) ledger.counted
 
-pub batches_few : (script : Script) (batches : List Batch) (end : World) → IsScript script → IsKept script batches end → length batches < 2 ^ 32
-batches_few script batches end valid kept =
-    let few = entries_few script batches end valid kept in
-    let fewer = filled_few batches kept.serial.filled in
+pub version_few : (script : Script) (batches : List Batch) (world : World) → IsScript script → IsOrdered script batches → IsLedger batches world → world.state.version < 2 ^ 31
+version_few script batches world valid order ledger =
+    let few = entries_few script batches valid order in
+    let fewer = filled_few batches order.filled in
+    let version = ledger.counted.version in
+    omega arith
+
+pub batches_few : (script : Script) (batches : List Batch) → IsScript script → IsOrdered script batches → length batches < 2 ^ 32
+batches_few script batches valid order =
+    let few = entries_few script batches valid order in
+    let fewer = filled_few batches order.filled in
     omega arith

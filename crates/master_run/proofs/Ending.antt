@@ -29,9 +29,9 @@ use Rattle.session_law.specs.declared.batches.Entry.{Entry}
 use Rattle.session_law.specs.declared.worlds.Stepped.{Stepped}
 use Rattle.session_law.specs.declared.worlds.World.{World}
 use Rattle.session_law.specs.Histories.{IsOwn, is_own_step, step_at, submitted, task_at, tasks_at}
-use Rattle.session_law.specs.Publications.{does_commit, reach_of}
+use Rattle.session_law.specs.Publications.{cut_by, does_commit, reach_of}
 use Rattle.session_law.specs.BatchSteps.{BatchInput, batch_step, commit_step, drop_step, end_of, executed_step, next_step, refused_step}
-use Rattle.master_run.specs.Books.{input_at, ran_at}
+use Rattle.master_run.specs.Books.{input_at, placed_in, ran_at}
 use Rattle.master_run.proofs.Alls.{either}
 use Rattle.master_run.proofs.Bounds.{Stands, stands}
 
@@ -122,7 +122,6 @@ entries_count script name (entry ∷ entries) own =
     let rest = entries_count script name entries own.1 in
     omega arith
 
-pub ends_count : (script : Script) (world : World) (queue : QueueSpec) (entries : List Entry) (at : ℕ)
-    → AllByRecursion (IsOwn script) (map (λ e. record { queue = queue.name; entry = e }) entries) → length (ran_at script world queue entries at).0.ends ≡ length entries
+pub ends_count : (script : Script) (world : World) (queue : QueueSpec) (entries : List Entry) (at : ℕ) → AllByRecursion (IsOwn script) (placed_in queue.name entries) → length (ran_at script world queue entries at).0.ends ≡ length entries
 ends_count script world queue entries at own =
-    step_ends (input_at script queue entries at) world ∙ entries_count script queue.name entries own
+    step_ends (input_at (cut_by script.faults) script queue entries at) world ∙ entries_count script queue.name entries own

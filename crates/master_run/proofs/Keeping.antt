@@ -26,11 +26,11 @@ use Rattle.session_law.specs.declared.batches.Entry.{Entry}
 use Rattle.session_law.specs.declared.worlds.Reach.{Reach}
 use Rattle.session_law.specs.declared.worlds.Stepped.{Stepped}
 use Rattle.session_law.specs.declared.worlds.World.{World}
-use Rattle.session_law.specs.Histories.{AreApart, AreSeen, IsApart, IsOwn, Queued, SteppedBatch, after, commit_of, history_on, kind_named, queued_in, queued_of, stepped, tasks_at, world_after}
+use Rattle.session_law.specs.Histories.{AreApart, AreSeen, IsApart, IsOrdered, IsOwn, Queued, SteppedBatch, after, commit_of, history_on, kind_named, queued_in, queued_of, stepped, tasks_at, world_after}
 use Rattle.session_law.specs.Publications.{cut_by, does_commit, reach_of}
 use Rattle.session_law.specs.BatchSteps.{BatchInput, batch_step, commit_step, drop_step, executed_step, next_step, refused_step}
 use Rattle.session_law.specs.Worlds.{first_world}
-use Rattle.master_run.specs.Books.{Chronicle, IsKeptBook, first_book, input_at, noted, ran_at}
+use Rattle.master_run.specs.Books.{CanJoin, Chronicle, IsKeptBook, first_book, input_at, noted, ran_at}
 use Rattle.master_run.proofs.Alls.{all_append, all_by, all_push}
 
 -- ---- tests and options
@@ -52,9 +52,13 @@ or_left false b e = absurd (true≢false (sym e))
 pub same_number : (n : ℕ) → (n == n) ≡ true
 same_number n = (unsigned_Decides n n).1 refl
 
-not_true : (a : Bool) → not a ≡ true → a ≡ false
+pub not_true : (a : Bool) → not a ≡ true → a ≡ false
 not_true false e = refl
 not_true true e = absurd (true≢false (sym e))
+
+pub false_from : (b : Bool) → (b ≡ true → ⊥) → b ≡ false
+false_from true never = absurd (never refl)
+false_from false never = refl
 
 pub both_first : (a b : Bool) → (a && b) ≡ true → a ≡ true
 both_first true b e = refl
@@ -186,29 +190,35 @@ placed_push batches batch = flat_map-append queued_in batches (batch ∷ []) ∙
 -- ---- the whole
 
 pub kept_first : (script : Script) → IsKeptBook script (first_book script)
-kept_first script = record { serial = record { results = tt; filled = tt; own = tt; apart = tt; seen = tt }; world = refl }
+kept_first script = record { serial = record { results = tt; order = record { filled = tt; own = tt; apart = tt; seen = tt } }; world = refl }
 
-pub kept_join : (script : Script) (book : Chronicle) (number : ℕ) (queue : QueueSpec) (entries : List Entry) (at : ℕ)
-    → IsScript script → IsKeptBook script book → slice_get script.queues number ≡ Some queue
-    → let placed : List Queued = map (λ e. record { queue = queue.name; entry = e }) entries in
-    0 < length entries → AllByRecursion (IsOwn script) placed → AllByRecursion (λ e. e.seen ≤ length book.batches) entries → AreApart (queued_of book.batches ++ placed)
-    → IsKeptBook script (noted book queue entries at (ran_at script book.world queue entries at))
-kept_join script book number queue entries at valid kept e some own seen apart =
+-- with entries that may join, a book is in order still, whatever came of them
+pub order_join : (script : Script) (book : Chronicle) (queue : QueueSpec) (entries : List Entry) (at : ℕ) (step : Stepped × World) → IsOrdered script book.batches → CanJoin script book queue entries
+    → IsOrdered script (noted book queue entries at step).batches
+order_join script book queue entries at step order joins =
+    let batch : Batch = record { queue = queue.name; at = at; entries = entries; result = step.0.result } in
+    record {
+      filled = all_push (λ (b : Batch). 0 < length b.entries) book.batches batch order.filled joins.some;
+      own = subst (AllByRecursion (IsOwn script)) (sym (placed_push book.batches batch)) (all_append (IsOwn script) (queued_of book.batches) (queued_in batch) order.own joins.own);
+      apart = subst AreApart (sym (placed_push book.batches batch)) joins.apart;
+      seen = seen_push 1 book.batches batch order.seen
+          (all_by (λ (e : Entry). e.seen ≤ length book.batches) (λ (e : Entry). e.seen < 1 + length book.batches) (λ e less. omega arith) entries joins.seen);
+    }
+
+pub kept_join : (script : Script) (book : Chronicle) (number : ℕ) (queue : QueueSpec) (entries : List Entry) (at commit : ℕ) → IsScript script → IsKeptBook script book
+    → slice_get script.queues number ≡ Some queue → CanJoin script book queue entries → IsKeptBook script (noted book queue entries at (ran_at script book.world queue entries commit))
+kept_join script book number queue entries at commit valid kept e joins =
     let step : World → Kind → ℕ → Stepped × World =
     λ w k c. batch_step (record { cut = cut_by script.faults; nodes = script.nodes; kind = k; tasks = tasks_at script entries; commit = c }) w in
-    let made = step book.world queue.executor at in
+    let made = step book.world queue.executor commit in
     let batch : Batch = record { queue = queue.name; at = at; entries = entries; result = made.0.result } in
     let again : made ≡ stepped script (world_after script book.batches) batch =
-    sym (step_again (input_at script queue entries at) at book.world)
+    sym (step_again (input_at (cut_by script.faults) script queue entries commit) commit book.world)
     ∙ (λ i. step (kept.world i) (sym (named_kind script.queues number queue valid.queues_distinct e) i) (commit_of made.0.result)) in
     record {
       serial = record {
         results = results_push script (first_world script) book.batches batch kept.serial.results (ap (λ (s : Stepped × World). s.0.result) again);
-        filled = all_push (λ (b : Batch). 0 < length b.entries) book.batches batch kept.serial.filled some;
-        own = subst (AllByRecursion (IsOwn script)) (sym (placed_push book.batches batch)) (all_append (IsOwn script) (queued_of book.batches) (queued_in batch) kept.serial.own own);
-        apart = subst AreApart (sym (placed_push book.batches batch)) apart;
-        seen = seen_push 1 book.batches batch kept.serial.seen
-            (all_by (λ (e : Entry). e.seen ≤ length book.batches) (λ (e : Entry). e.seen < 1 + length book.batches) (λ e less. omega arith) entries seen);
+        order = order_join script book queue entries at made kept.serial.order joins;
       };
       world = ap (λ (s : Stepped × World). s.1) again ∙ sym (world_push script (first_world script) book.batches batch);
     }

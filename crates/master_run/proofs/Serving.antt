@@ -1,5 +1,5 @@
 -- The master's turn leaves a replay sound: what it takes from a queue may join the book, and what is left waits on.
-use Rattle.std.specs.Prelude.{◌≡◌, ℕ, ◌<◌, ◌≤◌, Bool, true, false, not, cond, ◌&&◌, ◌==◌, List, [], ◌∷◌, ◌++◌, length, map, filter, Option, Some, None, nat_lt, slice_get, bytes_eq, refl, if◌then◌else◌}
+use Rattle.std.specs.Prelude.{◌≡◌, ℕ, ◌<◌, ◌≤◌, Bool, true, false, not, cond, ◌&&◌, ◌==◌, List, [], ◌∷◌, ◌++◌, length, filter, Option, Some, None, nat_lt, slice_get, bytes_eq, refl, if◌then◌else◌}
 use Rattle.std.proofs.Common.{sym, ◌∙◌, ap, subst, arith}
 use Rattle.std.proofs.Math.Bool.{true≢false}
 use Rattle.std.proofs.lemmas.List.{length-append, length-map}
@@ -17,16 +17,15 @@ use Rattle.session_law.specs.declared.batches.Entry.{Entry}
 use Rattle.session_law.specs.Histories.{AreApart, IsApart, IsOwn, Queued, is_named, is_own_step, queued_in, queued_of, step_at}
 use Rattle.master_run.specs.declared.replays.Replay.{Replay}
 use Rattle.master_run.specs.declared.waitings.Waiting.{Waiting}
-use Rattle.master_run.specs.Books.{IsKeptBook, added, added_to, noted, ran_at}
+use Rattle.master_run.specs.Books.{CanJoin, CanJoinAt, added_to, placed_in, ran_at}
 use Rattle.master_run.specs.Soundness.{AreApartAmong, IsPassed, IsSound, IsWaiting, is_submit_to, name_if, queued_at}
 use Rattle.master_run.specs.Tellings.{told_all}
 use Rattle.master_run.specs.Turns.{master_turn, queue_turn, served}
 use Rattle.master_run.specs.Waitings.{entries_of, is_in, left_by, next_queue, rank_at, sooner, soonest, taken_from}
 use Rattle.master_run.proofs.Alls.{all_append, all_both, all_by, all_filter, all_pass, either, kept_between, kept_more, kept_some}
-use Rattle.master_run.proofs.Bounds.{false_from}
 use Rattle.master_run.proofs.Ending.{ends_count}
 use Rattle.master_run.proofs.Holding.{all_run, held_served, run_longer}
-use Rattle.master_run.proofs.Keeping.{apart_append, both_first, both_second, kept_join, names_apart, no_some, placed_push, some_same}
+use Rattle.master_run.proofs.Keeping.{apart_append, both_first, both_second, false_from, kept_join, names_apart, no_some, placed_push, some_same}
 
 -- ---- the queue that is served
 
@@ -92,7 +91,7 @@ placed_named queues number queue w e h =
 -- the entries of a batch of what is taken
 placed_taken : (script : Script) (positions : List ℕ) (batches number : ℕ) (queue : QueueSpec) (P : Queued → Type 0) (all : List Waiting) → slice_get script.queues number ≡ Some queue
     → AllByRecursion (IsTaken script positions batches number) all → AllByRecursion (λ w. P (queued_at script.queues w)) all
-    → AllByRecursion P (map (λ e. record { queue = queue.name; entry = e }) (entries_of all))
+    → AllByRecursion P (placed_in queue.name (entries_of all))
 placed_taken script positions batches number queue P [] e taken h = tt
 placed_taken script positions batches number queue P (w ∷ all) e taken h =
     (subst P (placed_named script.queues number queue w e taken.0.1) h.0, placed_taken script positions batches number queue P all e taken.1 h.1)
@@ -175,7 +174,7 @@ crossed script positions batches number (w ∷ all) valid waiting among =
     (crossed script positions batches number all valid waiting.1 among.1)
 
 taken_apart : (script : Script) (positions : List ℕ) (batches number : ℕ) (queue : QueueSpec) (all : List Waiting) → slice_get script.queues number ≡ Some queue
-    → AllByRecursion (IsTaken script positions batches number) all → AreApartAmong script.queues all → AreApart (map (λ e. record { queue = queue.name; entry = e }) (entries_of all))
+    → AllByRecursion (IsTaken script positions batches number) all → AreApartAmong script.queues all → AreApart (placed_in queue.name (entries_of all))
 taken_apart script positions batches number queue [] e taken among = tt
 taken_apart script positions batches number queue (w ∷ all) e taken among = (
   placed_taken script positions batches number queue (IsApart (record { queue = queue.name; entry = w.entry })) all e taken.1
@@ -185,26 +184,25 @@ taken_apart script positions batches number queue (w ∷ all) e taken among = (
 
 -- ---- the turn
 
--- the entries of what is taken, as a batch of their queue
-taken_kept : (script : Script) (replay : Replay) (number : ℕ) (queue : QueueSpec) → IsScript script → IsSound script replay → slice_get script.queues number ≡ Some queue
-    → 0 < length (taken_from number replay.waiting)
-    → let entries = entries_of (taken_from number replay.waiting) in
-    IsKeptBook script (noted replay.book queue entries replay.clock (ran_at script replay.book.world queue entries replay.clock))
-taken_kept script replay number queue valid sound e some =
+-- the entries of what is taken may join the book
+taken_may_join : (script : Script) (replay : Replay) (number : ℕ) (queue : QueueSpec) → IsSound script replay → slice_get script.queues number ≡ Some queue
+    → 0 < length (taken_from number replay.waiting) → CanJoin script replay.book queue (entries_of (taken_from number replay.waiting))
+taken_may_join script replay number queue sound e some =
     let batches = length replay.book.batches in
     let taken = taken_from number replay.waiting in
     let placed = queued_of replay.book.batches in
     let are_taken = taken_all script replay.positions batches number replay.waiting sound.waiting in
     let own = all_by (IsTaken script replay.positions batches number) (λ w. IsOwn script (queued_at script.queues w)) (λ w h. waiting_own script replay.positions batches w h.0) taken are_taken in
     let from : Queued → Type 0 = λ later. AllByRecursion (λ before. IsApart before later) placed in
-    kept_join script replay.book number queue (entries_of taken) replay.clock valid sound.kept e
-    (subst (λ n. 0 < n) (sym (length-map taken (λ (w : Waiting). w.entry))) some)
-    (placed_taken script replay.positions batches number queue (IsOwn script) taken e are_taken own)
-    (seen_few script replay.positions batches number taken are_taken)
-    (apart_append placed (map (λ e. record { queue = queue.name; entry = e }) (entries_of taken)) sound.kept.serial.apart
-    (taken_apart script replay.positions batches number queue taken e are_taken (among_filter script.queues (is_in number) replay.waiting sound.among))
-    (placed_taken script replay.positions batches number queue from taken e are_taken
-    (all_filter (λ w. from (queued_at script.queues w)) (is_in number) replay.waiting sound.apart)))
+    record {
+      some = subst (λ n. 0 < n) (sym (length-map taken (λ (w : Waiting). w.entry))) some;
+      own = placed_taken script replay.positions batches number queue (IsOwn script) taken e are_taken own;
+      seen = seen_few script replay.positions batches number taken are_taken;
+      apart = apart_append placed (placed_in queue.name (entries_of taken)) sound.kept.serial.order.apart
+          (taken_apart script replay.positions batches number queue taken e are_taken (among_filter script.queues (is_in number) replay.waiting sound.among))
+          (placed_taken script replay.positions batches number queue from taken e are_taken
+          (all_filter (λ w. from (queued_at script.queues w)) (is_in number) replay.waiting sound.apart));
+    }
 
 waits_longer : (script : Script) (positions : List ℕ) (batches more : ℕ) (w : Waiting) → batches ≤ more → IsWaiting script positions batches w → IsWaiting script positions more w
 waits_longer script positions batches more w less h =
@@ -239,7 +237,7 @@ queue_sound script replay number queue valid sound e some =
     let from_taken : Waiting → Type 0 = λ l. AllByRecursion (λ t. IsApart (queued_at script.queues t) (queued_at script.queues l)) taken in
     record {
       places = sound.places;
-      kept = taken_kept script replay number queue valid sound e some;
+      kept = kept_join script replay.book number queue (entries_of taken) replay.clock replay.clock valid sound.kept e (taken_may_join script replay number queue sound e some);
       passed = subst (AllByRecursion (IsPassed replay.positions)) (sym pushed)
           (all_append (IsPassed replay.positions) placed (queued_in batch) sound.passed (placed_taken script replay.positions batches number queue (IsPassed replay.positions) taken e are_taken passed));
       waiting = all_by (IsWaiting script replay.positions batches) (IsWaiting script replay.positions (length (replay.book.batches ++ batch ∷ [])))
@@ -276,7 +274,9 @@ master_sound script replay valid sound = queue_turn_sound script replay (next_qu
 pub turned_by_master : (script : Script) (replay now : Replay) → IsScript script → IsSound script replay → now ≡ master_turn script replay → IsSound script now
 turned_by_master script replay now valid sound e = subst (IsSound script) (sym e) (master_sound script replay valid sound)
 
-pub taken_joins : (script : Script) (replay : Replay) (number : ℕ) (entries : List Entry) → IsScript script → IsSound script replay → next_queue script.queues replay.waiting ≡ Some number
-    → entries ≡ entries_of (taken_from number replay.waiting) → IsKeptBook script (added script replay.book number entries replay.clock)
-taken_joins script replay number entries valid sound e same =
-    subst (λ (all : List Entry). IsKeptBook script (added script replay.book number all replay.clock)) (sym same) (served_sound script replay number valid sound e).kept
+pub taken_joins : (script : Script) (replay : Replay) (number : ℕ) (entries : List Entry) → IsSound script replay → next_queue script.queues replay.waiting ≡ Some number
+    → entries ≡ entries_of (taken_from number replay.waiting) → CanJoinAt script replay.book number entries
+taken_joins script replay number entries sound e same =
+    let is = is_served script replay.positions (length replay.book.batches) number replay.waiting sound.waiting e in
+    subst (CanJoinAt script replay.book number) (sym same)
+    (record { queue = is.queue; of_queue = is.of_queue; joins = taken_may_join script replay number is.queue sound is.of_queue is.some })

@@ -18,9 +18,9 @@ use Rattle.master_run.specs.Soundness.{AreApartAmong, IsPassed, IsSound, IsWaiti
 use Rattle.master_run.specs.Tellings.{batch_told}
 use Rattle.master_run.specs.Turns.{awaited_by, client_turn, next_at, seen_at, step_turn, submitted_to, waiting_of}
 use Rattle.master_run.proofs.Alls.{all_by, all_push}
-use Rattle.master_run.proofs.Bounds.{false_from, steps_few, stood}
+use Rattle.master_run.proofs.Bounds.{steps_few, stood}
 use Rattle.master_run.proofs.Holding.{awaited_set, held_awaited, held_submitted, seen_within, told_run}
-use Rattle.master_run.proofs.Keeping.{both_first, both_second, same_number}
+use Rattle.master_run.proofs.Keeping.{both_first, both_second, false_from, same_number}
 use Rattle.master_run.proofs.Taken.{queued, some_queue}
 
 -- ---- positions

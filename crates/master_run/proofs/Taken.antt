@@ -1,8 +1,9 @@
 -- The tasks of a kept book's batch are few, and its queue's executor takes each of them.
-use Rattle.std.specs.Prelude.{◌≡◌, ℕ, zero, suc, ◌+◌, ◌<◌, ◌^◌, Bool, true, ◌&&◌, List, [], ◌∷◌, ◌++◌, length, map, Option, Some, None, option_and_then, slice_get, bytes_eq, refl}
+use Rattle.std.specs.Prelude.{◌≡◌, ℕ, zero, suc, ◌+◌, ◌<◌, ◌^◌, Bool, true, ◌&&◌, ◌==◌, List, [], ◌∷◌, ◌++◌, length, Option, Some, None, option_and_then, slice_get, bytes_eq, refl}
 use Rattle.std.proofs.Common.{sym, ◌∙◌, ap, subst, arith}
 use Rattle.std.proofs.Math.Bool.{true≢false}
 use Rattle.std.specs.List.{AllByRecursion, cons_option, list_all}
+use Rattle.std.specs.Cmp.{unsigned_Decides}
 use Rattle.std.specs.Cmp.Lexicographic.{bytes_decides}
 use Rattle.std.proofs.lemmas.List.{length-append, length-map}
 use Rattle.scripts.specs.declared.queues.QueueSpec.{QueueSpec}
@@ -10,35 +11,28 @@ use Rattle.scripts.specs.declared.whole_script.Script.{Script}
 use Rattle.scripts.specs.declared.steps.Step.{Step}
 use Rattle.scripts.specs.declared.steps.Step.TheVariants.{Submit, Await, Watch, Next, Read, Sleep, Close}
 use Rattle.executors.specs.declared.tasks.Task.{Task}
+use Rattle.scripts.specs.declared.faults.Fault.{Fault}
 use Rattle.scripts.specs.Built.{IsBuilt, is_built_step}
 use Rattle.executors.specs.Kinds.{accepts}
 use Rattle.scripts.proofs.Takes.{accepts_task_for}
 use Rattle.scripts.specs.Scripts.{IsScript}
 use Rattle.scripts.specs.ValidSteps.{are_steps, is_client, is_queue_for, is_step}
-use Rattle.session_law.specs.declared.batches.Batch.{Batch}
 use Rattle.session_law.specs.declared.batches.Entry.{Entry}
-use Rattle.session_law.specs.Histories.{IsOwn, Queued, is_named, is_own_step, kind_named, queued_in, queued_of, step_at, submitted, task_at, tasks_at}
-use Rattle.master_run.specs.Books.{Chronicle, IsKeptBook, added, added_to, noted, ran_at}
-use Rattle.master_run.proofs.Bounds.{Stands, all_get, entries_few, stands, stood}
+use Rattle.session_law.specs.Histories.{IsOrdered, IsOwn, is_named, is_own_step, kind_named, queued_of, step_at, submitted, task_at, tasks_at}
+use Rattle.master_run.specs.Books.{CanJoin, Chronicle, placed_in}
+use Rattle.master_run.proofs.Alls.{all_append}
+use Rattle.master_run.proofs.Bounds.{Stands, all_get, own_few, stands, stood}
 use Rattle.master_run.proofs.Ending.{entries_count}
-use Rattle.master_run.proofs.Keeping.{both_first, both_second, named_kind, no_some, placed_push, some_same}
-
--- ---- the queue is known
-
-joined : (script : Script) (book : Chronicle) (number : ℕ) (queue : QueueSpec) (entries : List Entry) (at : ℕ) → slice_get script.queues number ≡ Some queue
-    → IsKeptBook script (added script book number entries at) → IsKeptBook script (noted book queue entries at (ran_at script book.world queue entries at))
-joined script book number queue entries at e kept = subst (λ (found : Option QueueSpec). IsKeptBook script (added_to script book found entries at)) e kept
+use Rattle.master_run.proofs.Keeping.{both_first, both_second, named_kind, no_some, some_same}
 
 -- ---- few
 
-pub few_entries : (script : Script) (book : Chronicle) (number : ℕ) (queue : QueueSpec) (entries : List Entry) (at : ℕ) → IsScript script → slice_get script.queues number ≡ Some queue
-    → IsKeptBook script (added script book number entries at) → length entries < 2 ^ 32
-few_entries script book number queue entries at valid e kept =
-    let made = ran_at script book.world queue entries at in
-    let batch : Batch = record { queue = queue.name; at = at; entries = entries; result = made.0.result } in
-    let all = entries_few script (book.batches ++ batch ∷ []) made.1 valid (joined script book number queue entries at e kept) in
-    let longer : length (queued_of (book.batches ++ batch ∷ [])) ≡ length (queued_of book.batches) + length entries =
-    ap length (placed_push book.batches batch) ∙ length-append (queued_of book.batches) (queued_in batch) ∙ ap (λ n. length (queued_of book.batches) + n) (length-map entries (λ e. record { queue = queue.name; entry = e })) in
+pub few_entries : (script : Script) (book : Chronicle) (queue : QueueSpec) (entries : List Entry) → IsScript script → IsOrdered script book.batches → CanJoin script book queue entries → length entries < 2 ^ 32
+few_entries script book queue entries valid order joins =
+    let all = queued_of book.batches ++ placed_in queue.name entries in
+    let few = own_few script all valid (all_append (IsOwn script) (queued_of book.batches) (placed_in queue.name entries) order.own joins.own) joins.apart in
+    let longer : length all ≡ length (queued_of book.batches) + length entries =
+    length-append (queued_of book.batches) (placed_in queue.name entries) ∙ ap (λ n. length (queued_of book.batches) + n) (length-map entries (λ e. record { queue = queue.name; entry = e })) in
     omega arith
 
 -- ---- taken
@@ -73,13 +67,21 @@ some_queue script task None h = absurd (true≢false (sym h))
 some_queue script task (Some queue) h = (queue, refl)
 
 -- what is built says of each step
-pub steps_built : (script : Script) → IsBuilt script → list_all (list_all (is_built_step script)) script.clients ≡ true
-steps_built script built = both_first _ _ (both_second _ _ (both_second _ _ built))
+pub steps_built : (script : Script) → IsBuilt script → list_all (list_all is_built_step) script.clients ≡ true
+steps_built script built = both_first _ _ (both_second _ _ built)
 
-pub built_at : (script : Script) (client number : ℕ) (step : Step) → IsBuilt script → step_at script client number ≡ Some step → is_built_step script step ≡ true
+-- and it says that no node fails
+none_there : (faults : List Fault) → (length faults == 0) ≡ true → faults ≡ []
+none_there [] e = refl
+none_there (fault ∷ faults) e = absurd (let none = (unsigned_Decides (length (fault ∷ faults)) 0).0 e in omega arith)
+
+pub faults_built : (script : Script) → IsBuilt script → script.faults ≡ []
+faults_built script built = none_there script.faults (both_first _ _ (both_second _ _ (both_second _ _ built)))
+
+pub built_at : (script : Script) (client number : ℕ) (step : Step) → IsBuilt script → step_at script client number ≡ Some step → is_built_step step ≡ true
 built_at script client number step built e =
     let at = stood script client number step e in
-    all_get (is_built_step script) at.steps number step (all_get (list_all (is_built_step script)) script.clients client at.steps (steps_built script built) at.of_client) at.of_steps
+    all_get is_built_step at.steps number step (all_get (list_all is_built_step) script.clients client at.steps (steps_built script built) at.of_client) at.of_steps
 
 -- a queue that is named as another is of the same executor
 named_same : (script : Script) (number : ℕ) (queue : QueueSpec) (other : QueueSpec) (at : ℕ) → IsScript script → slice_get script.queues number ≡ Some queue
@@ -118,30 +120,15 @@ entry_taken script number queue entry valid e at rest all =
     (step_taken script number queue valid e at.step at.own (queued script entry.client entry.step at.step valid here) rest all)
 
 entries_taken : (script : Script) (number : ℕ) (queue : QueueSpec) (entries : List Entry) → IsScript script → slice_get script.queues number ≡ Some queue
-    → AllByRecursion (IsOwn script) (map (λ e. record { queue = queue.name; entry = e }) entries) → list_all (accepts queue.executor) (tasks_at script entries) ≡ true
+    → AllByRecursion (IsOwn script) (placed_in queue.name entries) → list_all (accepts queue.executor) (tasks_at script entries) ≡ true
 entries_taken script number queue [] valid e own = refl
 entries_taken script number queue (entry ∷ entries) valid e own =
     entry_taken script number queue entry valid e (stands script (record { queue = queue.name; entry = entry }) own.0) (tasks_at script entries)
     (entries_taken script number queue entries valid e own.1)
 
-own_last : (script : Script) (before more : List Queued) → AllByRecursion (IsOwn script) (before ++ more) → AllByRecursion (IsOwn script) more
-own_last script [] more own = own
-own_last script (placed ∷ before) more own = own_last script before more own.1
+pub each_task : (script : Script) (book : Chronicle) (queue : QueueSpec) (entries : List Entry) → CanJoin script book queue entries → length (tasks_at script entries) ≡ length entries
+each_task script book queue entries joins = entries_count script queue.name entries joins.own
 
--- the entries of a batch that joins are steps of the script
-own_entries : (script : Script) (book : Chronicle) (number : ℕ) (queue : QueueSpec) (entries : List Entry) (at : ℕ) → slice_get script.queues number ≡ Some queue
-    → IsKeptBook script (added script book number entries at) → AllByRecursion (IsOwn script) (map (λ e. record { queue = queue.name; entry = e }) entries)
-own_entries script book number queue entries at e kept =
-    let made = ran_at script book.world queue entries at in
-    let batch : Batch = record { queue = queue.name; at = at; entries = entries; result = made.0.result } in
-    let own = subst (AllByRecursion (IsOwn script)) (placed_push book.batches batch) (joined script book number queue entries at e kept).serial.own in
-    own_last script (queued_of book.batches) (queued_in batch) own
-
-pub each_task : (script : Script) (book : Chronicle) (number : ℕ) (queue : QueueSpec) (entries : List Entry) (at : ℕ) → slice_get script.queues number ≡ Some queue
-    → IsKeptBook script (added script book number entries at) → length (tasks_at script entries) ≡ length entries
-each_task script book number queue entries at e kept = entries_count script queue.name entries (own_entries script book number queue entries at e kept)
-
-pub tasks_taken : (script : Script) (book : Chronicle) (number : ℕ) (queue : QueueSpec) (entries : List Entry) (at : ℕ) → IsScript script
-    → slice_get script.queues number ≡ Some queue → IsKeptBook script (added script book number entries at) → list_all (accepts queue.executor) (tasks_at script entries) ≡ true
-tasks_taken script book number queue entries at valid e kept =
-    entries_taken script number queue entries valid e (own_entries script book number queue entries at e kept)
+pub tasks_taken : (script : Script) (book : Chronicle) (number : ℕ) (queue : QueueSpec) (entries : List Entry) → IsScript script → slice_get script.queues number ≡ Some queue
+    → CanJoin script book queue entries → list_all (accepts queue.executor) (tasks_at script entries) ≡ true
+tasks_taken script book number queue entries valid e joins = entries_taken script number queue entries valid e joins.own

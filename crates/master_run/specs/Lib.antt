@@ -1,8 +1,14 @@
 pub mod Books
-pub mod Publishing
+pub mod Conclusions
+pub mod Ledgers
+pub mod Linked
+pub mod MemoryLinks
+pub mod Plans
+pub mod Reaches
 pub mod Replays
 pub mod Rests
 pub mod Rooms
+pub mod Sendings
 pub mod SerialSessions
 pub mod Singles
 pub mod Soundness

@@ -1,5 +1,5 @@
 -- Counters that can still rise: what the code of a batch asks of the world that it runs on.
-use Rattle.std.specs.Prelude.{◌+◌, ◌<◌, ◌≤◌, ◌^◌}
+use Rattle.std.specs.Prelude.{◌<◌, ◌^◌}
 use Rattle.std.specs.List.{AllByRecursion}
 use Rattle.meta_state.specs.States.{IsRoomy}
 use Rattle.session_law.specs.declared.worlds.NodeWorld.{NodeWorld}
@@ -7,23 +7,17 @@ use Rattle.session_law.specs.declared.worlds.Reach.{Reach}
 use Rattle.session_law.specs.declared.worlds.World.{World}
 
 -- one more publication to a node can be counted
-abbrev pub CanSend : NodeWorld → Type 0
-CanSend node = node.sent < 2 ^ 63
+abbrev pub CanPublish : NodeWorld → Type 0
+CanPublish node = node.sent < 2 ^ 63
 
--- one more node that a publication reached can be counted
+-- the nodes that a publication reached can be counted together
 pub record CanCount (reach : Reach) : Type 0 where
   pub diffs : reach.diffs < 2 ^ 63
   pub fulls : reach.fulls < 2 ^ 63
   pub votes : reach.votes < 2 ^ 63
 
--- one node more raises no count by more than one
-pub record RisesByOne (before now : Reach) : Type 0 where
-  pub diffs : now.diffs ≤ before.diffs + 1
-  pub fulls : now.fulls ≤ before.fulls + 1
-  pub votes : now.votes ≤ before.votes + 1
-
 -- one more batch can be counted
 pub record HasRoom (world : World) : Type 0 where
   pub state : IsRoomy world.state
   pub proposals : world.proposals < 2 ^ 63
-  pub sent : AllByRecursion CanSend world.nodes
+  pub sent : AllByRecursion CanPublish world.nodes

@@ -7,6 +7,8 @@ use Rattle.executors.specs.declared.executions.Executed.{Executed}
 use Rattle.executors.specs.declared.executions.Executed.TheVariants.{Made, Failed}
 use Rattle.executors.specs.declared.tasks.Task.{Task}
 use Rattle.executors.specs.Touching.{touched_by}
+use Rattle.master_run.specs.declared.plans.Plan.{Plan}
+use Rattle.master_run.specs.declared.plans.Plan.TheVariants.{Settled, Proposed}
 
 -- where names are known, they are those of the tasks
 abbrev pub AreNamesOf : List Task → Option Touched → Type 0
@@ -22,3 +24,8 @@ AgreeOutsideThese (Some touched) a b = AgreeOutside touched a b
 abbrev pub ChangesOnlyThese : Option Touched → ClusterState → Executed → Type 0
 ChangesOnlyThese touched old (Made state marks) = AgreeOutsideThese touched old state
 ChangesOnlyThese touched old (Failed position refusal) = Unit {0}
+
+-- where names are known, a proposed state agrees with the current one outside of them
+abbrev pub KnowsChanges : Option Touched → ClusterState → Plan → Type 0
+KnowsChanges touched old (Settled stepped) = Unit {0}
+KnowsChanges touched old (Proposed proposal) = AgreeOutsideThese touched old proposal.new

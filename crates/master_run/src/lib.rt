@@ -2,14 +2,18 @@
 //! one thread.
 #![tactic(auto)]
 
-mod batch_steps;
 mod books;
+mod conclusions;
 mod first_worlds;
-mod publications;
+mod memory_links;
+mod plans;
 mod replays;
+mod sendings;
 mod serial_core;
 mod tellings;
 mod waitings;
 
 pub use books::{Book, BookEnd};
+pub use plans::{Plan, Planned, Proposal};
+pub use sendings::Sent;
 pub use serial_core::SerialCore;

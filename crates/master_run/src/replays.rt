@@ -1,7 +1,11 @@
-ghost use Rattle.std.specs.Prelude.{◌≡◌, ◌<◌, IfOk, OnOk, length, map, slice_index_or};
+ghost use Rattle.std.specs.Prelude.{◌≡◌, ◌<◌, IfOk, List, OnOk, length, map, slice_index_or};
 ghost use Rattle.std.specs.Option.{option_copied};
 ghost use Rattle.scripts.specs.Scripts.{IsScript};
-ghost use Rattle.session_law.specs.Histories.{step_at};
+ghost use Rattle.session_law.specs.Histories.{IsOrdered, step_at};
+ghost use Rattle.publication.specs.LinkMeanings.{LinkMeaning};
+ghost use Rattle.master_run.specs.Books.{CanJoinAt, added};
+ghost use Rattle.master_run.specs.Linked.{AreUsed, IsLinked};
+ghost use Rattle.master_run.specs.Sendings.{AreLinksOf, HaveRoom};
 ghost use Rattle.master_run.specs.Replays.{round_of, session_of};
 ghost use Rattle.master_run.specs.Soundness.{IsSound};
 ghost use Rattle.master_run.specs.Tellings.{batch_told};
@@ -10,9 +14,11 @@ ghost use Rattle.master_run.specs.Turns.{awaited_by, client_turn, first_replay, 
 use crate::books::{Book, BookEnd};
 use crate::tellings::Told;
 use crate::waitings::{Parted, Waiting, entries_of, next_queue, part};
+use edge_io::Frozen;
 use plain_data::{Items, OutOfMemory};
+use publication::Link;
 use scripts::{Goal, Script, Step};
-use session_law::{Entry, Session};
+use session_law::{Entry, Session, World};
 use std::alloc::Global;
 
 /// How far a replay of a script has come.
@@ -56,12 +62,19 @@ impl Replay {
     }
 
     /// One round: a turn for each client in order, and one for the master. It answers whether a turn acted.
-    pub(crate) fn round(&mut self, alloc: Global, script: &Script) -> Result<bool, OutOfMemory>
+    pub(crate) fn round<L: Link>(
+        &mut self,
+        alloc: Global,
+        script: &Script,
+        links: &mut [L],
+    ) -> Result<bool, OutOfMemory>
         requires script { IsScript script.now }
         requires sound { IsSound script.now self.old }
+        requires linked { IsLinked script.now self.old (map L.meaning links.old) }
         ensures round { OnOk result (self.new ≡ round_of script.now self.old) }
         ensures acted { IfOk result (λ acted. acted ≡ self.new.acted) }
         ensures sound { OnOk result (IsSound script.now self.new) }
+        ensures linked { OnOk result (IsLinked script.now self.new (map L.meaning links.new)) }
     {
         self.acted = false;
         let mut client: u32 = 0;
@@ -69,17 +82,18 @@ impl Replay {
             self.client_turn(script, client)?;
             client += 1;
         }
-        self.master_turn(alloc, script)?;
+        self.master_turn(alloc, script, links)?;
         Ok(self.acted)
     }
 
     /// A client's turn.
-    #[tactic(auto, using(crate::proofs::Submitting::turned_by_client))]
+    #[tactic(auto, using(crate::proofs::Submitting::turned_by_client, crate::proofs::Linking::linked_by_client))]
     fn client_turn(&mut self, script: &Script, client: u32) -> Result<(), OutOfMemory>
         requires script { IsScript script.now }
         requires sound { IsSound script.now self.old }
         ensures turn { OnOk result (self.new ≡ client_turn script.now client self.old) }
         ensures sound { OnOk result (IsSound script.now self.new) }
+        ensures linked { OnOk result ((links : List LinkMeaning) → IsLinked script.now self.old links → IsLinked script.now self.new links) }
     {
         self.perform_next(script, client)
     }
@@ -162,24 +176,62 @@ impl Replay {
 
     /// The master's turn: it takes all that waits in one queue, and tells each client how its task ended. It does
     /// nothing where nothing waits.
-    #[tactic(auto, using(crate::proofs::Serving::turned_by_master, crate::proofs::Serving::served_within, crate::proofs::Serving::taken_joins))]
-    fn master_turn(&mut self, alloc: Global, script: &Script) -> Result<(), OutOfMemory>
+    #[tactic(auto, using(crate::proofs::Serving::turned_by_master, crate::proofs::Serving::taken_joins, crate::proofs::Linking::rooms_left, crate::proofs::Linking::linked_by_master))]
+    fn master_turn<L: Link>(
+        &mut self,
+        alloc: Global,
+        script: &Script,
+        links: &mut [L],
+    ) -> Result<(), OutOfMemory>
         requires script { IsScript script.now }
         requires sound { IsSound script.now self.old }
+        requires linked { IsLinked script.now self.old (map L.meaning links.old) }
         ensures turn { OnOk result (self.new ≡ master_turn script.now self.old) }
         ensures sound { OnOk result (IsSound script.now self.new) }
+        ensures linked { OnOk result (IsLinked script.now self.new (map L.meaning links.new)) }
     {
         let Some(number) = next_queue(script.queues.as_slice(), self.waiting.as_slice()) else {
             return Ok(());
         };
         let Parted { taken, left } = part(alloc, self.waiting.as_slice(), number)?;
         let entries = entries_of(alloc, taken.as_slice())?;
-        self.book.add(script, number, entries, self.clock)?;
+        self.add_batch(script, number, entries, links)?;
         let batch = self.book.count();
         self.told.tell(batch, taken.as_slice(), self.book.ends())?;
         self.waiting = left;
         self.acted = true;
         Ok(())
+    }
+
+    /// The entries of what waits in a queue are added to the book as a batch, at the moment of the clock.
+    #[tactic(auto, using(crate::proofs::Linking::used_by_batch))]
+    fn add_batch<L: Link>(
+        &mut self,
+        script: &Script,
+        number: u32,
+        entries: Vec<Entry>,
+        links: &mut [L],
+    ) -> Result<(), OutOfMemory>
+        requires script { IsScript script.now }
+        requires sound { IsSound script.now self.old }
+        requires linked { IsLinked script.now self.old (map L.meaning links.old) }
+        requires joins { CanJoinAt script.now self.old.book number entries.items }
+        requires room { HaveRoom (map L.meaning links.old) }
+        ensures added { OnOk result (self.new ≡ record self.old { book = added script.now self.old.book number entries.items self.old.clock }) }
+        ensures order { OnOk result (IsOrdered script.now self.new.book.batches) }
+        ensures links { OnOk result (AreLinksOf script.now.nodes self.new.book.world (map L.meaning links.new)) }
+        ensures used { OnOk result (AreUsed (map L.meaning links.old) (map L.meaning links.new)) }
+    {
+        let clock = Frozen::new(self.clock);
+        self.book
+            .add(script, number, entries, self.clock, links, &clock)
+    }
+
+    /// The world after its batches.
+    pub(crate) fn world(&self) -> &World
+        ensures { result.now ≡ self.now.book.world }
+    {
+        self.book.world()
     }
 
     /// The session that the replay has made.

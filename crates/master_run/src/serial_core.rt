@@ -1,14 +1,17 @@
-ghost use Rattle.std.specs.Prelude.{◌≡◌, ◌≤◌, IfOk, OnOk, length};
+ghost use Rattle.std.specs.Prelude.{◌≡◌, ◌≤◌, IfOk, OnOk, length, map};
 ghost use Rattle.scripts.specs.Built.{IsBuilt};
 ghost use Rattle.scripts.specs.Scripts.{IsScript};
+ghost use Rattle.master_run.specs.Linked.{IsLinked};
 ghost use Rattle.master_run.specs.Replays.{most_rounds, performed, replayed, rounds};
 ghost use Rattle.master_run.specs.Rests.{IsAtRest};
 ghost use Rattle.master_run.specs.SerialSessions.{IsSerialSession};
 ghost use Rattle.master_run.specs.Singles.{AreSingles};
 ghost use Rattle.master_run.specs.Soundness.{IsSound};
 
+use crate::memory_links::open_links;
 use crate::replays::Replay;
 use plain_data::OutOfMemory;
+use publication::Link;
 use scripts::Script;
 use session_law::Session;
 use std::alloc::Global;
@@ -34,7 +37,8 @@ impl SerialCore {
         ensures singles { length script.now.clients ≤ 1 → AreSingles script.now (replayed script.now).batches }
     {
         let mut replay = Replay::first(alloc, script)?;
-        perform_rounds(alloc, script, &mut replay, most_rounds(script))?;
+        let mut links = open_links(alloc, script, replay.world())?;
+        perform_rounds(alloc, script, &mut replay, &mut links, most_rounds(script))?;
         replay.finish(alloc)
     }
 }
@@ -52,19 +56,21 @@ fn most_rounds(script: &Script) -> u64
 }
 
 /// Rounds, until one in which no turn acts, but at most so many.
-fn perform_rounds(
+fn perform_rounds<L: Link>(
     alloc: Global,
     script: &Script,
     replay: &mut Replay,
+    links: &mut [L],
     most: u64,
 ) -> Result<(), OutOfMemory>
     requires script { IsScript script.now }
     requires sound { IsSound script.now replay.old }
+    requires linked { IsLinked script.now replay.old (map L.meaning links.old) }
     ensures { OnOk result (replay.new ≡ rounds script.now most replay.old) }
 {
     let mut left = most;
     while left > 0 {
-        if !replay.round(alloc, script)? {
+        if !replay.round(alloc, script, links)? {
             return Ok(());
         }
         left -= 1;
