@@ -1,5 +1,5 @@
 use crate::publishing_nodes::state_of;
-use crate::small_links::{kinds_told, link_to, told};
+use crate::small_links::{can_publish, kinds_told, link_to, told};
 use meta_state::{ClusterState, to_json};
 use plain_data::{Items, OutOfMemory, Text};
 use publication::{Link, MemLink, Publication, publish};
@@ -23,13 +23,16 @@ fn three_links(
 
 // Three publications over the links, each from the state that was committed last: a node joins, and then two settings
 // are set. What came of each, a line each.
-fn publish_three(alloc: Global, links: &mut [MemLink]) -> Result<Items<Text>, OutOfMemory> {
+fn publish_three(alloc: Global, links: &mut [MemLink]) -> Result<Items<Text>, Fail> {
     let mut lines = Items::new(alloc);
     let mut current = state_of(alloc, 1, &["n0", "n1"], &[])?;
     let settings: [&[&str]; 3] = [&[], &["a"], &["a", "b"]];
     let mut id: u64 = 2;
     for keys in settings {
         let new = state_of(alloc, id, &["n0", "n1", "n2"], keys)?;
+        if !can_publish(&current, &new, links) {
+            return Err(Fail::from("a state can't be published"));
+        }
         let publication = publish(alloc, &current, &new, links)?;
         lines.push(told(alloc, &publication)?)?;
         if matches!(&publication, Publication::Committed { .. }) {

@@ -1,5 +1,9 @@
+ghost use Rattle.std.specs.Prelude.{◌≡◌, ◌<◌, ◌^◌, IsTrue, map};
+ghost use Rattle.std.specs.List.{AllByRecursion};
+ghost use Rattle.publication.specs.Deliveries.{CanTake};
+
 use meta_state::ClusterState;
-use plain_data::{OutOfMemory, Text};
+use plain_data::{OutOfMemory, Text, is_same};
 use publication::{MemLink, MessageKind, Publication, Replica};
 use std::alloc::Global;
 
@@ -16,6 +20,33 @@ pub fn link_to(
     }
     let replica = Replica::new(held.copy(alloc)?);
     MemLink::new(alloc, Text::from_str(alloc, node)?, replica, 4, calls)
+}
+
+/// Whether a new state may be published over links, after another: what `publish` asks of its caller.
+pub fn can_publish(prev: &ClusterState, new: &ClusterState, links: &[MemLink]) -> bool
+    ensures differ { IsTrue result → prev.now.id ≡ new.now.id → ⊥ }
+    ensures links { IsTrue result → AllByRecursion (CanTake prev.now new.now) (map (λ l. l.meaning) links.now) }
+    ensures bound { IsTrue result → new.now.version < 2 ^ 32 }
+{
+    prev.id != new.id && new.version < 1 << 32 && can_all_take(prev, new, links)
+}
+
+fn can_all_take(prev: &ClusterState, new: &ClusterState, links: &[MemLink]) -> bool
+    ensures { IsTrue result → AllByRecursion (CanTake prev.now new.now) (map (λ l. l.meaning) links.now) }
+{
+    for link in links {
+        if !can_take(prev, new, link) {
+            return false;
+        }
+    }
+    true
+}
+
+fn can_take(prev: &ClusterState, new: &ClusterState, link: &MemLink) -> bool
+    ensures { IsTrue result → CanTake prev.now new.now link.now.meaning }
+{
+    let held = link.state();
+    held.id != new.id && (held.id != prev.id || is_same(held, prev)) && link.room() > 0
 }
 
 /// A publication in one line: what came of it, its counts, and its places.
