@@ -69,48 +69,106 @@ fn a_task_goes_to_a_batch_or_times_out(rt: HostRuntime) -> Result<(), Fail> {
             0,
             5,
             [
-                Try::ExpireAt { reading: 4, answer: Expiry::NotDue { deadline: 5 } },
-                Try::Poll { answer: TaskPoll::NotYet },
-                Try::ExpireAt { reading: 5, answer: Expiry::Won },
-                Try::AcquireFor { batch: 1, answer: Acquired::Timed { reading: 5 } },
-                Try::ExpireAt { reading: 6, answer: Expiry::AlreadyTimed { reading: 5 } },
-                Try::Poll { answer: TaskPoll::Timed { reading: 5 } },
+                Try::ExpireAt {
+                    reading: 4,
+                    answer: Expiry::NotDue { deadline: 5 },
+                },
+                Try::Poll {
+                    answer: TaskPoll::NotYet,
+                },
+                Try::ExpireAt {
+                    reading: 5,
+                    answer: Expiry::Won,
+                },
+                Try::AcquireFor {
+                    batch: 1,
+                    answer: Acquired::Timed { reading: 5 },
+                },
+                Try::ExpireAt {
+                    reading: 6,
+                    answer: Expiry::AlreadyTimed { reading: 5 },
+                },
+                Try::Poll {
+                    answer: TaskPoll::Timed { reading: 5 },
+                },
             ],
         ),
         (
             0,
             5,
             [
-                Try::AcquireFor { batch: 1, answer: Acquired::Mine { seen: 0 } },
-                Try::ExpireAt { reading: 9, answer: Expiry::Taken { batch: 1 } },
-                Try::Poll { answer: TaskPoll::NotYet },
+                Try::AcquireFor {
+                    batch: 1,
+                    answer: Acquired::Mine { seen: 0 },
+                },
+                Try::ExpireAt {
+                    reading: 9,
+                    answer: Expiry::Taken { batch: 1 },
+                },
+                Try::Poll {
+                    answer: TaskPoll::NotYet,
+                },
                 Try::End { code: ENDED },
-                Try::ExpireAt { reading: 9, answer: Expiry::Ended { code: ENDED } },
-                Try::Poll { answer: TaskPoll::Ended { code: ENDED } },
+                Try::ExpireAt {
+                    reading: 9,
+                    answer: Expiry::Ended { code: ENDED },
+                },
+                Try::Poll {
+                    answer: TaskPoll::Ended { code: ENDED },
+                },
             ],
         ),
         (
             2,
             5,
             [
-                Try::ExpireAt { reading: 0, answer: Expiry::NotDue { deadline: 5 } },
-                Try::AcquireFor { batch: 3, answer: Acquired::Mine { seen: 2 } },
+                Try::ExpireAt {
+                    reading: 0,
+                    answer: Expiry::NotDue { deadline: 5 },
+                },
+                Try::AcquireFor {
+                    batch: 3,
+                    answer: Acquired::Mine { seen: 2 },
+                },
                 Try::End { code: FAILED },
-                Try::Poll { answer: TaskPoll::Ended { code: FAILED } },
-                Try::ExpireAt { reading: 5, answer: Expiry::Ended { code: FAILED } },
-                Try::Poll { answer: TaskPoll::Ended { code: FAILED } },
+                Try::Poll {
+                    answer: TaskPoll::Ended { code: FAILED },
+                },
+                Try::ExpireAt {
+                    reading: 5,
+                    answer: Expiry::Ended { code: FAILED },
+                },
+                Try::Poll {
+                    answer: TaskPoll::Ended { code: FAILED },
+                },
             ],
         ),
         (
             0,
             NONE,
             [
-                Try::ExpireAt { reading: NONE - 1, answer: Expiry::NotDue { deadline: NONE } },
-                Try::ExpireAt { reading: 0, answer: Expiry::NotDue { deadline: NONE } },
-                Try::Poll { answer: TaskPoll::NotYet },
-                Try::AcquireFor { batch: 1, answer: Acquired::Mine { seen: 0 } },
-                Try::ExpireAt { reading: NONE - 1, answer: Expiry::Taken { batch: 1 } },
-                Try::Poll { answer: TaskPoll::NotYet },
+                Try::ExpireAt {
+                    reading: NONE - 1,
+                    answer: Expiry::NotDue { deadline: NONE },
+                },
+                Try::ExpireAt {
+                    reading: 0,
+                    answer: Expiry::NotDue { deadline: NONE },
+                },
+                Try::Poll {
+                    answer: TaskPoll::NotYet,
+                },
+                Try::AcquireFor {
+                    batch: 1,
+                    answer: Acquired::Mine { seen: 0 },
+                },
+                Try::ExpireAt {
+                    reading: NONE - 1,
+                    answer: Expiry::Taken { batch: 1 },
+                },
+                Try::Poll {
+                    answer: TaskPoll::NotYet,
+                },
             ],
         ),
     ];
@@ -146,9 +204,7 @@ fn each_task_has_its_own_word(rt: HostRuntime) -> Result<(), Fail> {
 }
 
 #[test]
-fn a_queue_is_told_of_its_first_task_until_a_batch_covers_it(
-    rt: HostRuntime,
-) -> Result<(), Fail> {
+fn a_queue_is_told_of_its_first_task_until_a_batch_covers_it(rt: HostRuntime) -> Result<(), Fail> {
     let alloc = rt.alloc();
     let mut table = table_of(alloc, [3].as_slice())?;
     assert_eq!(rt; table.cover(0), 0);

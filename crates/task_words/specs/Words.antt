@@ -2,7 +2,7 @@
 -- each queue; and a stop word. That a batch and a timeout compete for each waiting task and exactly one of them wins is
 -- Elasticsearch's (`MasterService`). That the sizes count announced tasks and a batch covers all of them at once, and
 -- that the word tells who won, is this project's own.
-use Rattle.std.specs.Prelude.{◌≡◌, ◌<◌, ◌+◌, ◌==◌, ℕ, Bool, true, false, List, [], map, length, get_or, set, replicate, nat_le, if◌then◌else◌}
+use Rattle.std.specs.Prelude.{◌<◌, ◌==◌, ℕ, Bool, true, false, List, [], map, length, get_or, set, replicate, nat_le, if◌then◌else◌}
 use Rattle.scripts.specs.declared.task_id.TaskId.{TaskId}
 use Rattle.task_words.specs.declared.answers.Acquired.{Acquired}
 use Rattle.task_words.specs.declared.answers.Expiry.{Expiry}
@@ -49,15 +49,7 @@ with_word id word table = record table {
 
 -- ---- a timeout
 
--- whether a task can time out at this reading: it waits, and its deadline is at most the reading
-abbrev pub is_due : ℕ → Word → Bool
-is_due reading (Word.Queued _ deadline) = nat_le deadline reading
-is_due _ Word.Vacant = false
-is_due _ (Word.Taken _ _) = false
-is_due _ (Word.Ended _) = false
-is_due _ (Word.Timed _) = false
-
--- whether it waits with this deadline
+-- whether a task waits with this deadline
 abbrev pub waits_until : ℕ → Word → Bool
 waits_until moment (Word.Queued _ deadline) = deadline == moment
 waits_until _ Word.Vacant = false
@@ -65,7 +57,8 @@ waits_until _ (Word.Taken _ _) = false
 waits_until _ (Word.Ended _) = false
 waits_until _ (Word.Timed _) = false
 
--- what a try to let it time out is answered, by the word that it finds
+-- What a try to let a task time out at this reading is answered, by the word that it finds: it wins exactly where the
+-- task waits and its deadline is at most the reading.
 abbrev pub expiry_of : ℕ → Word → Expiry
 expiry_of reading (Word.Queued _ deadline) = if nat_le deadline reading then Expiry.Won else Expiry.NotDue deadline
 expiry_of _ Word.Vacant = Expiry.Vacant
@@ -73,9 +66,14 @@ expiry_of _ (Word.Taken _ batch) = Expiry.Taken batch
 expiry_of _ (Word.Ended code) = Expiry.Ended code
 expiry_of _ (Word.Timed before) = Expiry.AlreadyTimed before
 
--- the table after the try: only a task that is due is timed out
-abbrev pub timed_by : ℕ → TaskId → TaskTable → TaskTable
-timed_by reading id table = if is_due reading (word_at table id) then with_word id (Word.Timed reading) table else table
+-- the table after a try that is answered so: one that doesn't win changes nothing
+abbrev pub timed_by : ℕ → TaskId → Expiry → TaskTable → TaskTable
+timed_by reading id Expiry.Won table = with_word id (Word.Timed reading) table
+timed_by _ _ (Expiry.NotDue _) table = table
+timed_by _ _ Expiry.Vacant table = table
+timed_by _ _ (Expiry.Taken _) table = table
+timed_by _ _ (Expiry.Ended _) table = table
+timed_by _ _ (Expiry.AlreadyTimed _) table = table
 
 -- ---- a batch
 
@@ -87,7 +85,8 @@ is_open (Word.Timed _) = true
 is_open (Word.Taken _ _) = false
 is_open (Word.Ended _) = false
 
--- what a batch's try to take an open task is answered
+-- What a batch's try to take an open task is answered, by the word that it finds: it gets the task exactly where that
+-- waits. (No batch asks for a task that is taken or ended.)
 abbrev pub acquired_by : Word → Acquired
 acquired_by (Word.Queued seen _) = Acquired.Mine seen
 acquired_by (Word.Timed reading) = Acquired.Timed reading
@@ -95,13 +94,11 @@ acquired_by Word.Vacant = Acquired.Vacant
 acquired_by (Word.Taken _ _) = Acquired.Vacant
 acquired_by (Word.Ended _) = Acquired.Vacant
 
--- the table after the try, by the word that it found: only a task that waits goes to the batch
-abbrev pub taken_by : ℕ → TaskId → Word → TaskTable → TaskTable
-taken_by batch id (Word.Queued seen _) table = with_word id (Word.Taken seen batch) table
-taken_by _ _ Word.Vacant table = table
-taken_by _ _ (Word.Taken _ _) table = table
-taken_by _ _ (Word.Ended _) table = table
-taken_by _ _ (Word.Timed _) table = table
+-- the table after a try that is answered so: one that doesn't get the task changes nothing
+abbrev pub taken_by : ℕ → TaskId → Acquired → TaskTable → TaskTable
+taken_by batch id (Acquired.Mine seen) table = with_word id (Word.Taken seen batch) table
+taken_by _ _ (Acquired.Timed _) table = table
+taken_by _ _ Acquired.Vacant table = table
 
 -- whether this batch has the task
 abbrev pub is_with : ℕ → Word → Bool
@@ -113,7 +110,7 @@ is_with _ (Word.Timed _) = false
 
 -- ---- a client's look
 
--- what a client learns of a task that it submitted
+-- what a client learns of a task that it submitted: that it isn't yet at its end, exactly where it waits or is taken
 abbrev pub polled : Word → TaskPoll
 polled (Word.Ended code) = TaskPoll.Ended code
 polled (Word.Timed reading) = TaskPoll.Timed reading

@@ -3,25 +3,25 @@ use executors::TaskRefusal;
 /// What came of a task that a batch took, or that ended as closed.
 #[derive(Clone, Copy, Debug, PartialEq, Eq)]
 pub enum Outcome {
-    /// It succeeded, and its batch published this version.
+    /// It succeeded in a batch whose state was published under this version.
     Ok { version: u64 },
 
-    /// It succeeded, and its batch changed nothing: the version is the one that stood.
+    /// It succeeded in a batch that changed nothing; the version is the state's.
     Unchanged { version: u64 },
 
-    /// Its executor refused it.
+    /// The executor refused it.
     Refused { refusal: TaskRefusal },
 
-    /// Its batch failed as a whole, by the task at this position in it.
+    /// The executor failed its whole batch, for the task at this place and for this cause.
     BatchFailed { position: u32, refusal: TaskRefusal },
 
-    /// Its batch found another node to be the master.
+    /// The master was out of office.
     NotMaster,
 
-    /// The state that its batch made wasn't committed.
+    /// Its batch's state could not be published.
     PublishFailed,
 
-    /// The master stopped before a batch took it.
+    /// It still waited as the master stopped.
     Closed,
 }
 

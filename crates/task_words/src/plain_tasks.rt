@@ -97,7 +97,7 @@ impl PlainTasks {
         requires lane { _lane < length self.old.words }
         requires id { IsWithin self.old id }
         ensures answer { result ≡ expiry_of reading (word_at self.old id) }
-        ensures table { self.new ≡ timed_by reading id self.old }
+        ensures table { self.new ≡ timed_by reading id result self.old }
     {
         match self.word(id) {
             Word::Vacant => Expiry::Vacant,
@@ -113,7 +113,7 @@ impl PlainTasks {
         requires id { IsWithin self.old id }
         requires waits { IsTrue (waits_until deadline (word_at self.old id)) }
         ensures answer { result ≡ expiry_of reading (word_at self.old id) }
-        ensures table { self.new ≡ timed_by reading id self.old }
+        ensures table { self.new ≡ timed_by reading id result self.old }
     {
         if reading < deadline {
             return Expiry::NotDue { deadline };
@@ -167,7 +167,7 @@ impl PlainTasks {
         requires id { IsWithin self.old id }
         requires open { IsTrue (is_open (word_at self.old id)) }
         ensures answer { result ≡ acquired_by (word_at self.old id) }
-        ensures table { self.new ≡ taken_by batch id (word_at self.old id) self.old }
+        ensures table { self.new ≡ taken_by batch id result self.old }
     {
         match self.word(id) {
             Word::Queued { seen, .. } => {
