@@ -3,7 +3,7 @@
 
 mod small_tables;
 
-pub use small_tables::table_of;
+pub use small_tables::table_with;
 
 #[cfg(test)]
 mod word_calls;
