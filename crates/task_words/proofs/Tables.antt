@@ -1,5 +1,5 @@
--- The words of a table after one of them is set: that one is as it was set, all others are as before, and there are
--- words for the same tasks.
+-- The words of a table after one of them is set: that one is as it was set, all others are as before, and each lane
+-- keeps its length.
 use Rattle.std.proofs.Common.{◌≡◌, ◌≢◌, ◌<◌, ◌⊎◌, ◌∙◌, ℕ, eqb, true, false, List, [], get_or, set, length, refl, ap, sym, subst, inl, inr}
 use Rattle.std.proofs.lemmas.Bool.Decides.{eqb_tells}
 use Rattle.std.proofs.lemmas.List.{get_or-set_same, get_or-set_other}
@@ -7,11 +7,6 @@ use Rattle.std.proofs.Math.ListN.{length-set}
 use Rattle.scripts.specs.declared.task_id.TaskId.{TaskId}
 use Rattle.task_words.specs.declared.words.Word.{Word}
 use Rattle.task_words.specs.Words.{IsWithin, lane_of, TaskTable, with_word, word_at}
-
--- ---- one list of words
-
-set_elsewhere : (words : List Word) (step other : ℕ) (word : Word) → other ≢ step → get_or (set words step word) other Word.Vacant ≡ get_or words other Word.Vacant
-set_elsewhere words step other word apart = get_or-set_other words step other word Word.Vacant apart
 
 -- ---- the lanes
 
@@ -33,7 +28,7 @@ word_at-with_word_same id word table within =
 by_client : (id other : TaskId) (word : Word) (table : TaskTable) → IsWithin table id → (other.client ≡ id.client → other.step ≢ id.step) → (other.client ≡ id.client) ⊎ (other.client ≢ id.client) → word_at (with_word id word table) other ≡ word_at table other
 by_client id other word table within apart (inl same) =
     ap (λ (words : List Word). get_or words other.step Word.Vacant) (lane_of-with_word_same id word table other.client within.client same)
-    ∙ set_elsewhere (lane_of table other.client) id.step other.step word (apart same)
+    ∙ get_or-set_other (lane_of table other.client) id.step other.step word Word.Vacant (apart same)
 by_client id other word table within apart (inr differs) =
     ap (λ (words : List Word). get_or words other.step Word.Vacant) (lane_of-with_word_other id word table other.client differs)
 

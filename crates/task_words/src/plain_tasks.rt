@@ -29,7 +29,7 @@ impl Model for PlainTasks {
 }
 
 impl PlainTasks {
-    ghost use Rattle.std.specs.Prelude.{◌≡◌, ◌≢◌, ◌<◌, ◌≤◌, ◌+◌, ◌-◌, ◌^◌, ◌↔◌, ◌==◌, true, false, length, IfOk, IfErr, IsTrue, OnErr, OnOk, sum};
+    ghost use Rattle.std.specs.Prelude.{◌≡◌, ◌≢◌, ◌<◌, ◌≤◌, ◌+◌, ◌-◌, ◌^◌, ◌↔◌, ◌==◌, true, length, IfOk, IsTrue, OnErr, OnOk, sum};
     ghost use Rattle.scripts.specs.declared.task_id.TaskId.{TaskId};
     ghost use Rattle.task_words.specs.declared.end_codes.Outcome.{Outcome};
     ghost use Rattle.task_words.specs.declared.words.Word.{Word};
