@@ -1,8 +1,8 @@
 use crate::publishing_nodes::state_of;
-use crate::small_links::{can_publish, kinds_told, link_to, told};
-use meta_state::{ClusterState, to_json};
+use crate::small_links::{can_publish, kinds_told, link_line, link_to, told};
+use meta_state::ClusterState;
 use plain_data::{Items, OutOfMemory, Text};
-use publication::{Link, MemLink, Publication, publish};
+use publication::{MemLink, Publication, publish};
 use std::alloc::Global;
 use std::test::Fail;
 
@@ -21,26 +21,59 @@ fn three_links(
     Ok(links)
 }
 
+// What came of one publication, in a line, and whether it committed.
+fn publish_one(
+    alloc: Global,
+    current: &ClusterState,
+    new: &ClusterState,
+    links: &mut [MemLink],
+) -> Result<(Text, bool), Fail> {
+    if !can_publish(current, new, links) {
+        return Err(Fail::from("a state can't be published"));
+    }
+    let publication = publish(alloc, current, new, links)?;
+    let commits = matches!(&publication, Publication::Committed { .. });
+    Ok((told(alloc, &publication)?, commits))
+}
+
 // Three publications over the links, each from the state that was committed last: a node joins, and then two settings
 // are set. What came of each, a line each.
 fn publish_three(alloc: Global, links: &mut [MemLink]) -> Result<Items<Text>, Fail> {
     let mut lines = Items::new(alloc);
     let mut current = state_of(alloc, 1, &["n0", "n1"], &[])?;
-    let settings: [&[&str]; 3] = [&[], &["a"], &["a", "b"]];
-    let mut id: u64 = 2;
-    for keys in settings {
+    let steps: [(u64, &[&str]); 3] = [(2, &[]), (3, &["a"]), (4, &["a", "b"])];
+    for (id, keys) in steps {
         let new = state_of(alloc, id, &["n0", "n1", "n2"], keys)?;
-        if !can_publish(&current, &new, links) {
-            return Err(Fail::from("a state can't be published"));
-        }
-        let publication = publish(alloc, &current, &new, links)?;
-        lines.push(told(alloc, &publication)?)?;
-        if matches!(&publication, Publication::Committed { .. }) {
+        let (line, commits) = publish_one(alloc, &current, &new, links)?;
+        lines.push(line)?;
+        if commits {
             current = new;
         }
-        id += 1;
     }
     Ok(lines)
+}
+
+// The same over new links, and then the kinds of the messages that each node answered.
+fn lines_and_kinds(alloc: Global, failing: [&[u64]; 3]) -> Result<Items<Text>, Fail> {
+    let first = state_of(alloc, 1, &["n0", "n1"], &[])?;
+    let mut links = three_links(alloc, &first, failing)?;
+    let mut lines = publish_three(alloc, &mut links)?;
+    for link in links.iter() {
+        lines.push(kinds_told(alloc, link)?)?;
+    }
+    Ok(lines)
+}
+
+// What is left of each link after it, over links of which none fails.
+fn links_after(alloc: Global) -> Result<Items<Text>, Fail> {
+    let first = state_of(alloc, 1, &["n0", "n1"], &[])?;
+    let mut links = three_links(alloc, &first, [&[], &[], &[]])?;
+    let _lines = publish_three(alloc, &mut links)?;
+    let mut left = Items::new(alloc);
+    for link in links.iter() {
+        left.push(link_line(alloc, link)?)?;
+    }
+    Ok(left)
 }
 
 #[test]
@@ -49,15 +82,17 @@ fn a_state_goes_as_a_diff_or_whole_and_commits_by_the_master_and_a_majority(
 ) -> Result<(), Fail> {
     let alloc = rt.alloc();
     // which calls of each link fail, what comes of the publications, and the kinds of the messages that were answered
-    let table: [([&[u64]; 3], [&str; 3], [&str; 3]); 6] = [
+    let table: [([&[u64]; 3], [&str; 6]); 6] = [
         (
             [&[], &[], &[]],
             [
                 "committed diffs 2 fulls 1 accepted 0 1 2 handed 0 1 2",
                 "committed diffs 3 fulls 0 accepted 0 1 2 handed 0 1 2",
                 "committed diffs 3 fulls 0 accepted 0 1 2 handed 0 1 2",
+                "ddd",
+                "ddd",
+                "fdd",
             ],
-            ["ddd", "ddd", "fdd"],
         ),
         (
             [&[], &[0], &[]],
@@ -65,8 +100,10 @@ fn a_state_goes_as_a_diff_or_whole_and_commits_by_the_master_and_a_majority(
                 "committed diffs 1 fulls 1 accepted 0 2 handed 0 2",
                 "committed diffs 2 fulls 1 accepted 0 1 2 handed 0 1 2",
                 "committed diffs 3 fulls 0 accepted 0 1 2 handed 0 1 2",
+                "ddd",
+                "dfd",
+                "fdd",
             ],
-            ["ddd", "dfd", "fdd"],
         ),
         (
             [&[], &[0], &[0]],
@@ -74,8 +111,10 @@ fn a_state_goes_as_a_diff_or_whole_and_commits_by_the_master_and_a_majority(
                 "failed diffs 1 fulls 0 accepted 0",
                 "committed diffs 1 fulls 2 accepted 0 1 2 handed 0 1 2",
                 "committed diffs 3 fulls 0 accepted 0 1 2 handed 0 1 2",
+                "ddfd",
+                "dd",
+                "fd",
             ],
-            ["ddfd", "dd", "fd"],
         ),
         (
             [&[0], &[], &[]],
@@ -83,8 +122,10 @@ fn a_state_goes_as_a_diff_or_whole_and_commits_by_the_master_and_a_majority(
                 "failed diffs 1 fulls 1 accepted 1 2",
                 "committed diffs 1 fulls 2 accepted 0 1 2 handed 0 1 2",
                 "committed diffs 3 fulls 0 accepted 0 1 2 handed 0 1 2",
+                "dd",
+                "ddfd",
+                "ffd",
             ],
-            ["dd", "ddfd", "ffd"],
         ),
         (
             [&[], &[], &[1]],
@@ -92,8 +133,10 @@ fn a_state_goes_as_a_diff_or_whole_and_commits_by_the_master_and_a_majority(
                 "committed diffs 2 fulls 1 accepted 0 1 2 handed 0 1",
                 "committed diffs 3 fulls 0 accepted 0 1 2 handed 0 1 2",
                 "committed diffs 3 fulls 0 accepted 0 1 2 handed 0 1 2",
+                "ddd",
+                "ddd",
+                "fdd",
             ],
-            ["ddd", "ddd", "fdd"],
         ),
         (
             [&[], &[0, 2], &[]],
@@ -101,19 +144,17 @@ fn a_state_goes_as_a_diff_or_whole_and_commits_by_the_master_and_a_majority(
                 "committed diffs 1 fulls 1 accepted 0 2 handed 0 2",
                 "committed diffs 2 fulls 0 accepted 0 2 handed 0 2",
                 "committed diffs 2 fulls 1 accepted 0 1 2 handed 0 1 2",
+                "ddd",
+                "ddf",
+                "fdd",
             ],
-            ["ddd", "ddf", "fdd"],
         ),
     ];
-    for (failing, expected, kinds) in table {
-        let first = state_of(alloc, 1, &["n0", "n1"], &[])?;
-        let mut links = three_links(alloc, &first, failing)?;
-        let lines = publish_three(alloc, &mut links)?;
+    for (failing, expected) in table {
+        let lines = lines_and_kinds(alloc, failing)?;
+        assert_eq!(rt; lines.len(), 6);
         for (line, wanted) in lines.as_slice().iter().zip(expected) {
             assert_eq!(rt; line.as_str(), wanted);
-        }
-        for (link, wanted) in links.iter().zip(kinds) {
-            assert_eq!(rt; kinds_told(alloc, link)?.as_str(), wanted);
         }
     }
     Ok(())
@@ -125,20 +166,11 @@ const LAST: &str =
 #[test]
 fn each_node_holds_the_last_state_and_was_handed_each(rt: HostRuntime) -> Result<(), Fail> {
     let alloc = rt.alloc();
-    let first = state_of(alloc, 1, &["n0", "n1"], &[])?;
-    let mut links = three_links(alloc, &first, [&[], &[], &[]])?;
-    let lines = publish_three(alloc, &mut links)?;
-    assert_eq!(rt; lines.len(), 3);
-    for link in links.iter() {
-        assert_eq!(rt; to_json(alloc, link.state())?.as_str(), LAST);
-        let mut versions = Vec::new(alloc);
-        for state in link.handed() {
-            versions.push(state.version)?;
-        }
-        assert_eq!(rt; versions.as_slice(), [2, 3, 4].as_slice());
-        assert_eq!(rt; link.room(), 1);
-        assert_eq!(rt; link.faults(), 0);
+    let left = links_after(alloc)?;
+    assert_eq!(rt; left.len(), 3);
+    for (line, name) in left.as_slice().iter().zip(["n0", "n1", "n2"]) {
+        let wanted = format!(in alloc; "{name} handed 2 3 4 room 1 faults 0 holds {LAST}")?;
+        assert_eq!(rt; line.as_str(), wanted.as_str());
     }
-    assert_eq!(rt; links[0].node().as_str(), "n0");
     Ok(())
 }

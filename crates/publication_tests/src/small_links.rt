@@ -2,9 +2,9 @@ ghost use Rattle.std.specs.Prelude.{◌≡◌, ◌<◌, ◌^◌, IsTrue, map};
 ghost use Rattle.std.specs.List.{AllByRecursion};
 ghost use Rattle.publication.specs.Deliveries.{CanTake};
 
-use meta_state::ClusterState;
+use meta_state::{ClusterState, to_json};
 use plain_data::{OutOfMemory, Text, is_same};
-use publication::{MemLink, MessageKind, Publication, Replica};
+use publication::{Link, MemLink, MessageKind, Publication, Replica};
 use std::alloc::Global;
 
 /// A link to a node that holds a state, with room for four commits. Its calls of these numbers fail.
@@ -85,6 +85,20 @@ pub fn kinds_told(alloc: Global, link: &MemLink) -> Result<Text, OutOfMemory> {
         }
     }
     Ok(Text::from_string(letters))
+}
+
+/// A link in one line: its node, what this was handed, the room that is left, the faults, and what the node holds.
+pub fn link_line(alloc: Global, link: &MemLink) -> Result<Text, OutOfMemory> {
+    let mut line = String::from_str(alloc, link.node().as_str())?;
+    line.push_str(" handed")?;
+    for state in link.handed() {
+        write_number(&mut line, " ", state.version)?;
+    }
+    write_number(&mut line, " room ", u64::from(link.room()))?;
+    write_number(&mut line, " faults ", link.faults())?;
+    line.push_str(" holds ")?;
+    line.push_str(to_json(alloc, link.state())?.as_str())?;
+    Ok(Text::from_string(line))
 }
 
 fn write_counts(line: &mut String, word: &str, diffs: u64, fulls: u64) -> Result<(), OutOfMemory> {
