@@ -46,11 +46,14 @@ fn publish_three(alloc: Global, links: &mut [MemLink]) -> Result<Items<Text>, Fa
         let new = state_of(alloc, id, &["n0", "n1", "n2"], keys)?;
         let (line, commits) = publish_one(alloc, &current, &new, links)?;
         lines.push(line)?;
-        if commits {
-            current = new;
-        }
+        current = last_committed(commits, current, new);
     }
     Ok(lines)
+}
+
+// The new state where it was committed, and else the one before. Apart, so that a state is dropped in one place.
+fn last_committed(commits: bool, current: ClusterState, new: ClusterState) -> ClusterState {
+    if commits { new } else { current }
 }
 
 // The same over new links, and then the kinds of the messages that each node answered.
