@@ -1,0 +1,4 @@
+-- What the contracts of this crate cite.
+pub mod Intakes
+pub mod Turns
+pub mod Waitings
