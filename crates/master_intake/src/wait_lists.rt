@@ -66,6 +66,13 @@ impl WaitList {
         self.waiting.len()
     }
 
+    /// What waits, in the order of submission.
+    pub fn waiting(&self) -> &[Waiting]
+        ensures { result.now ≡ self.now.waiting }
+    {
+        self.waiting.as_slice()
+    }
+
     /// A client submits a task to a queue: its word is queued, its queue is told of it, and it stands at the end of
     /// what waits. It is refused where the master is to stop and where the client's lane has no word for the step;
     /// both change nothing and give the task back. Want of memory leaves what waits as it was.

@@ -9,10 +9,7 @@ use scripts::{Goal, Script, Step};
 pub(crate) fn is_all_built(script: &Script) -> bool
     ensures { result ≡ is_built script.now }
 {
-    script.clients.len() <= 1
-        && are_clients_built(script.clients.as_slice())
-        && script.faults.len() == 0
-        && script.schedule.len() == 0
+    are_clients_built(script.clients.as_slice()) && script.faults.len() == 0
 }
 
 fn are_clients_built(clients: &[Items<Step>]) -> bool
@@ -36,10 +33,11 @@ fn is_step_built(step: &Step) -> bool
         Step::Submit {
             queue: _,
             task: _,
-            timeout,
+            timeout: _,
             ack,
-        } => timeout.is_none() && ack.is_none(),
+        } => ack.is_none(),
         Step::Await { step: _, goal } => is_goal_built(*goal),
+        Step::Sleep { ms: _ } => true,
         _ => false,
     }
 }

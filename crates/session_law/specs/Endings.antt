@@ -52,6 +52,12 @@ abbrev pub is_closed : TaskEnd → Bool
 is_closed (end.Closed client step) = true
 is_closed _ = false
 
+-- whether a task in a batch can end so
+abbrev pub is_batch_end : TaskEnd → Bool
+is_batch_end (end.Timeout deadline reading) = false
+is_batch_end (end.Closed client step) = false
+is_batch_end _ = true
+
 -- the reply to a submit step
 pub record IsEnded (script : Script) (batches : List Batch) (reply : Reply) : Type 0 where
   pub submit : IsTrue (is_some_so is_submit (step_at script reply.client reply.step))

@@ -1,6 +1,7 @@
 pub mod Acknowledgements
 pub mod BatchSteps
 pub mod Changes
+pub mod Collected
 pub mod Committed
 pub mod DueTimes
 pub mod Endings

@@ -1,2 +1,2 @@
 -- Lemmas that the proofs of this crate and of those above share.
-pub mod Tables
+pub mod Cells

@@ -2,12 +2,13 @@
 -- each queue; and a stop word. That a batch and a timeout compete for each waiting task and exactly one of them wins is
 -- Elasticsearch's (`MasterService`). That the sizes count announced tasks and a batch covers all of them at once, and
 -- that the word tells who won, is this project's own.
-use Rattle.std.specs.Prelude.{◌<◌, ◌==◌, ℕ, Bool, true, false, List, [], map, length, get_or, set, replicate, nat_le, if◌then◌else◌}
+use Rattle.std.specs.Prelude.{◌<◌, ◌==◌, ℕ, Bool, true, false, List, map, length, get_or, set, replicate, nat_le, if◌then◌else◌}
 use Rattle.scripts.specs.declared.task_id.TaskId.{TaskId}
 use Rattle.task_words.specs.declared.answers.Acquired.{Acquired}
 use Rattle.task_words.specs.declared.answers.Expiry.{Expiry}
 use Rattle.task_words.specs.declared.answers.TaskPoll.{TaskPoll}
 use Rattle.task_words.specs.declared.words.Word.{Word}
+use Rattle.task_words.specs.Cells.{cell_at, row_of, with_cell}
 
 -- the words of each client's lane, the size of each queue, and whether the master is to stop
 pub record TaskTable : Type 0 where
@@ -30,7 +31,7 @@ vacant_table lanes queues = record {
 
 -- the words of a client: none where there is no such client
 abbrev pub lane_of : TaskTable → ℕ → List Word
-lane_of table client = get_or table.words client []
+lane_of table client = row_of table.words client
 
 -- there is a word for the task
 pub record IsWithin (table : TaskTable) (id : TaskId) : Type 0 where
@@ -39,13 +40,11 @@ pub record IsWithin (table : TaskTable) (id : TaskId) : Type 0 where
 
 -- the word of a task: vacant where the table has none
 abbrev pub word_at : TaskTable → TaskId → Word
-word_at table id = get_or (lane_of table id.client) id.step Word.Vacant
+word_at table id = cell_at Word.Vacant table.words id.client id.step
 
 -- the table with another word of a task
 abbrev pub with_word : TaskId → Word → TaskTable → TaskTable
-with_word id word table = record table {
-  words = set table.words id.client (set (lane_of table id.client) id.step word);
-}
+with_word id word table = record table { words = with_cell id.client id.step word table.words }
 
 -- ---- a timeout
 

@@ -190,8 +190,8 @@ impl PlainTasks {
         self.put(id, Word::Ended { code });
     }
 
-    // The word of a task.
-    fn word(&self, id: TaskId) -> Word
+    /// How far a task is.
+    pub fn word(&self, id: TaskId) -> Word
         requires { IsWithin self.now id }
         ensures { result ≡ word_at self.now id }
     {
