@@ -9,7 +9,7 @@ use Rattle.script_form.specs.declared.refusals.ScriptRefusal.{ScriptRefusal}
 use Rattle.script_form.specs.Reading.{script_of}
 use Rattle.script_form.specs.Refusals.{refusal_text}
 use Rattle.session_law.specs.Reports.{report_of}
-use Rattle.master_run.specs.Replays.{replayed}
+use Rattle.master_run.specs.Serials.{replayed}
 use Rattle.master_run.specs.SerialSessions.{IsSerialSession}
 use Rattle.esmaster.specs.declared.answers.Answer.{Answer}
 use Rattle.esmaster.specs.declared.exits.Exit.{Exit}
@@ -52,8 +52,8 @@ AnswersPart before now = IfSome before.left (λ input. WritesPart input before n
 abbrev pub IsUnwritten : Edges → Edges → Type 0
 IsUnwritten before now = now.held ≡ before.held
 
--- the session that is reported is one of a kept book: its committed versions are 2, 3, 4, .. in order, and no task stands
--- in two of its batches
+-- the session that is reported has batches that are a serial history, each task ended once in it, its last state is the one
+-- after all batches, and its lists stand in order
 abbrev pub IsReportedInOrder : Result Script ScriptRefusal → Type 0
 IsReportedInOrder read = IfOk read (λ script. IsSerialSession script (replayed script))
 

@@ -176,6 +176,12 @@ version_few script batches world valid order ledger =
     let version = ledger.counted.version in
     omega arith
 
+pub batches_fewer : (script : Script) (batches : List Batch) → IsScript script → IsOrdered script batches → length batches ≤ 131072
+batches_fewer script batches valid order =
+    let few = entries_few script batches valid order in
+    let fewer = filled_few batches order.filled in
+    omega arith
+
 pub batches_few : (script : Script) (batches : List Batch) → IsScript script → IsOrdered script batches → length batches < 2 ^ 32
 batches_few script batches valid order =
     let few = entries_few script batches valid order in

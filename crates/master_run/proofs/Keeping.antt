@@ -64,6 +64,10 @@ pub both_first : (a b : Bool) → (a && b) ≡ true → a ≡ true
 both_first true b e = refl
 both_first false b e = absurd (true≢false (sym e))
 
+pub neither : (a b : Bool) → (a || b) ≡ false → (a ≡ false) × (b ≡ false)
+neither true b e = absurd (true≢false e)
+neither false b e = (refl, e)
+
 pub both_second : (a b : Bool) → (a && b) ≡ true → b ≡ true
 both_second true b e = e
 both_second false b e = absurd (true≢false (sym e))
@@ -205,16 +209,26 @@ order_join script book queue entries at step order joins =
           (all_by (λ (e : Entry). e.seen ≤ length book.batches) (λ (e : Entry). e.seen < 1 + length book.batches) (λ e less. omega arith) entries joins.seen);
     }
 
-pub kept_join : (script : Script) (book : Chronicle) (number : ℕ) (queue : QueueSpec) (entries : List Entry) (at commit : ℕ) → IsScript script → IsKeptBook script book
-    → slice_get script.queues number ≡ Some queue → CanJoin script book queue entries → IsKeptBook script (noted book queue entries at (ran_at script book.world queue entries commit))
-kept_join script book number queue entries at commit valid kept e joins =
+-- the batch that is noted, and what it is stepped to in the history
+abbrev pub batch_of : Script → Chronicle → QueueSpec → List Entry → ℕ → ℕ → Batch
+batch_of script book queue entries at commit = record { queue = queue.name; at = at; entries = entries; result = (ran_at script book.world queue entries commit).0.result }
+
+pub stepped_again : (script : Script) (book : Chronicle) (number : ℕ) (queue : QueueSpec) (entries : List Entry) (at commit : ℕ) → IsScript script → IsKeptBook script book
+    → slice_get script.queues number ≡ Some queue
+    → ran_at script book.world queue entries commit ≡ stepped script (world_after script book.batches) (batch_of script book queue entries at commit)
+stepped_again script book number queue entries at commit valid kept e =
     let step : World → Kind → ℕ → Stepped × World =
     λ w k c. batch_step (record { cut = cut_by script.faults; nodes = script.nodes; kind = k; tasks = tasks_at script entries; commit = c }) w in
     let made = step book.world queue.executor commit in
-    let batch : Batch = record { queue = queue.name; at = at; entries = entries; result = made.0.result } in
-    let again : made ≡ stepped script (world_after script book.batches) batch =
     sym (step_again (input_at (cut_by script.faults) script queue entries commit) commit book.world)
-    ∙ (λ i. step (kept.world i) (sym (named_kind script.queues number queue valid.queues_distinct e) i) (commit_of made.0.result)) in
+    ∙ (λ i. step (kept.world i) (sym (named_kind script.queues number queue valid.queues_distinct e) i) (commit_of made.0.result))
+
+pub kept_join : (script : Script) (book : Chronicle) (number : ℕ) (queue : QueueSpec) (entries : List Entry) (at commit : ℕ) → IsScript script → IsKeptBook script book
+    → slice_get script.queues number ≡ Some queue → CanJoin script book queue entries → IsKeptBook script (noted book queue entries at (ran_at script book.world queue entries commit))
+kept_join script book number queue entries at commit valid kept e joins =
+    let made = ran_at script book.world queue entries commit in
+    let batch = batch_of script book queue entries at commit in
+    let again = stepped_again script book number queue entries at commit valid kept e in
     record {
       serial = record {
         results = results_push script (first_world script) book.batches batch kept.serial.results (ap (λ (s : Stepped × World). s.0.result) again);

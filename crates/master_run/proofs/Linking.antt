@@ -1,13 +1,13 @@
 -- A replay's links stay those of its world, and have room for all that may still be committed; so that a batch over
 -- them is the one that the script asks for.
-use Rattle.std.specs.Prelude.{◌≡◌, ℕ, zero, suc, ◌+◌, ◌-◌, ◌<◌, ◌≤◌, ◌^◌, Bool, true, false, not, cond, ◌&&◌, List, [], ◌∷◌, length, map, flat_map, count_by, drop, Option, Some, None, slice_get, slice_set, refl, if◌then◌else◌}
+use Rattle.std.specs.Prelude.{◌≡◌, ℕ, ◌+◌, ◌-◌, ◌<◌, ◌≤◌, Bool, true, false, not, cond, ◌&&◌, ◌||◌, List, [], ◌∷◌, length, map, Option, Some, None, Result, Ok, Err, IfOk, OnOk, refl, if◌then◌else◌}
 use Rattle.std.proofs.Common.{sym, ◌∙◌, ap, subst, arith}
 use Rattle.std.proofs.Math.Bool.{true≢false}
 use Rattle.std.proofs.lemmas.List.{length-append}
 use Rattle.std.proofs.lemmas.List.Filters.{length-filter_both}
-use Rattle.std.proofs.lemmas.List.Sums.{sum_by-append, sum_by-cons}
 use Rattle.std.specs.List.{AllByRecursion}
 use Rattle.meta_state.specs.declared.cluster_state.ClusterState.{ClusterState}
+use Rattle.plain_data.specs.declared.memory.OutOfMemory.{OutOfMemory}
 use Rattle.publication.specs.declared.deliveries.Answer.{Answer}
 use Rattle.publication.specs.Deliveries.{IsDelivered}
 use Rattle.publication.specs.LinkMeanings.{LinkMeaning}
@@ -28,6 +28,8 @@ use Rattle.session_law.specs.declared.worlds.Stepped.{Stepped}
 use Rattle.session_law.specs.declared.worlds.World.{World}
 use Rattle.session_law.specs.BatchSteps.{commit_step, drop_step}
 use Rattle.session_law.specs.Histories.{step_at}
+use Rattle.executors.specs.declared.tasks.Task.{Task}
+use Rattle.scripts.specs.declared.steps.Ack.{Ack}
 use Rattle.session_law.specs.Publications.{cut_by, does_commit}
 use Rattle.session_law.specs.Worlds.{first_node, first_state_of, first_world}
 use Rattle.meta_state.specs.States.{zero_state}
@@ -36,24 +38,29 @@ use Rattle.master_run.specs.declared.plans.Plan.TheVariants.{Settled, Proposed}
 use Rattle.master_run.specs.declared.plans.Proposal.{Proposal}
 use Rattle.master_run.specs.declared.replays.Replay.{Replay}
 use Rattle.master_run.specs.declared.sendings.Sent.{Sent}
-use Rattle.master_run.specs.declared.waitings.Waiting.{Waiting}
+use Rattle.master_intake.specs.declared.entries.Waiting.{Waiting}
+use Rattle.master_intake.specs.Waitings.{is_in, left_by, taken_from}
 use Rattle.master_run.specs.Books.{Chronicle, IsAdded, added, added_to, input_at, noted, plan_for, ran_at}
-use Rattle.master_run.specs.Linked.{AreUsed, IsLinked, IsSteady, IsUsed, batches_left, submits_left}
+use Rattle.master_run.specs.Linked.{AreUsed, IsLinked, IsSteady, IsUsed, batches_left}
 use Rattle.master_run.specs.MemoryLinks.{links_for, room_for}
 use Rattle.master_run.specs.Plans.{concluded}
 use Rattle.master_run.specs.Reaches.{AreScripted, IsScripted}
 use Rattle.master_run.specs.Sendings.{AreLinksOf, HaveRoom, IsSentFor}
-use Rattle.master_run.specs.Soundness.{IsSound}
-use Rattle.master_run.specs.Turns.{awaited_by, client_turn, first_replay, next_at, served, step_turn, waiting_of}
-use Rattle.master_run.specs.Tellings.{batch_told}
-use Rattle.master_run.specs.Waitings.{is_in, left_by, next_queue}
+use Rattle.master_run.specs.Courses.{Course, first_course, next_at, word_of}
+use Rattle.master_run.specs.Replays.{IsOverLinks, course_of, serial_of}
+use Rattle.std.specs.Option.{option_map}
+use Rattle.master_run.specs.Serials.{Serial, after_step, after_turn, at_clock, client_turn, first_serial}
+use Rattle.master_run.specs.Servings.{has_some_in}
+use Rattle.master_run.specs.SoFar.{IsLawfulSoFar}
+use Rattle.master_run.specs.Steps.{awaited_by, batch_told, moved_on, next_step_of, performed, step_by, submitted_by, waiting_of}
+use Rattle.master_run.specs.StepsLeft.{steps_left}
 use Rattle.master_run.proofs.Adding.{scripted_reached, scripted_step}
 use Rattle.master_run.proofs.Alls.{all_by}
 use Rattle.master_run.proofs.Bounds.{stood}
 use Rattle.master_run.proofs.Keeping.{no_some, some_same}
 use Rattle.master_run.proofs.Planning.{reach_cut, step_is}
 use Rattle.master_run.proofs.Reaching.{HasAnswered, have_answered}
-use Rattle.master_run.proofs.Serving.{served_some}
+use Rattle.master_run.proofs.StepsLeft.{kind_falls, left_falls, left_first}
 use Rattle.master_run.proofs.Taken.{faults_built}
 
 -- ---- over links of which none fails, a batch is the one of the script
@@ -106,7 +113,7 @@ reading_is script queue entries world may_read before after sent (Proposed propo
 
 pub added_over_links : (script : Script) (number : ℕ) (entries : List Entry) (at : ℕ) (may_read : ℕ → Bool) (before after : List LinkMeaning) (old new : Chronicle) → IsScript script
     → script.faults ≡ [] → AreLinksOf script.nodes old.world before → AllByRecursion (λ l. l.reliable ≡ true) before → ((c : ℕ) → may_read c ≡ true → c ≡ at)
-    → IsAdded script number entries at may_read before after old new → new ≡ added script old number entries at
+    → IsAdded script number entries at may_read before after old new → new ≡ added script old number entries at at
 added_over_links script number entries at may_read before after old new valid none of sure only is =
     let plan = plan_for script is.queue entries old.world in
     let scripted = all_scripted script old.world may_read before after is.sent plan none of sure is.sends in
@@ -115,7 +122,7 @@ added_over_links script number entries at may_read before after old new valid no
     step_is (input_at (cut_by script.faults) script is.queue entries is.sent.commit) old.world
     ∙ reading_is script is.queue entries old.world may_read before after is.sent plan at of is.sends scripted only
     ∙ sym (step_is (input_at (cut_by script.faults) script is.queue entries at) old.world) in
-    is.book ∙ ap (noted old is.queue entries at) (same ∙ read) ∙ ap (λ (found : Option QueueSpec). added_to script old found entries at) (sym is.of_queue)
+    is.book ∙ ap (noted old is.queue entries at) (same ∙ read) ∙ ap (λ (found : Option QueueSpec). added_to script old found entries at at) (sym is.of_queue)
 
 -- ---- what a batch takes of the links
 
@@ -160,141 +167,142 @@ steady_on left less (b ∷ before) (a ∷ after) h steady used = (
 
 -- over a replay's links, at a clock that stands still at its moment
 pub rebooked_over_links : (script : Script) (number : ℕ) (entries : List Entry) (may_read : ℕ → Bool) (before after : List LinkMeaning) (replay : Replay) (new : Chronicle) → IsScript script
-    → IsLinked script replay before → ((c : ℕ) → may_read c ≡ true → c ≡ replay.clock) → IsAdded script number entries replay.clock may_read before after replay.book new
-    → (record replay { book = new }) ≡ (record replay { book = added script replay.book number entries replay.clock })
-rebooked_over_links script number entries may_read before after replay new valid linked only is i =
-    record replay {
-      book = added_over_links script number entries replay.clock may_read before after replay.book new valid linked.faults linked.of
-          (all_sure (batches_left script replay) before linked.steady) only is i;
-    }
+    → IsOverLinks script replay before → ((c : ℕ) → may_read c ≡ true → c ≡ replay.clock) → IsAdded script number entries replay.clock may_read before after replay.book new
+    → (record replay { book = new }) ≡ (record replay { book = added script replay.book number entries replay.clock replay.clock })
+rebooked_over_links script number entries may_read before after replay new valid over only is i =
+    record replay { book = added_over_links script number entries replay.clock may_read before after replay.book new valid over.faults over.of over.sure only is i }
 
--- one submit less is left to a client, or as many
-counted_first : (step : Step) (steps : List Step) → count_by is_submit (step ∷ steps) ≡ cond (is_submit step) 1 0 + count_by is_submit steps
-counted_first step steps = sum_by-cons (λ (s : Step). cond (is_submit s) 1 0) step steps
+-- where something waits in a queue, some of it is taken
+taken_by_one : (number : ℕ) (w : Waiting) (more : List Waiting) (b : Bool) → is_in number w ≡ b → (b || has_some_in number more) ≡ true → (has_some_in number more ≡ true → 0 < length (taken_from number more))
+    → 0 < length (cond b (w ∷ taken_from number more) (taken_from number more))
+taken_by_one number w more true e h rest = omega arith
+taken_by_one number w more false e h rest = rest h
 
-first_falls : (step : Step) (steps : List Step) → count_by is_submit steps ≤ count_by is_submit (step ∷ steps)
-first_falls step steps = let counted = counted_first step steps in omega arith
+some_taken : (number : ℕ) (waiting : List Waiting) → has_some_in number waiting ≡ true → 0 < length (taken_from number waiting)
+some_taken number [] h = absurd (true≢false (sym h))
+some_taken number (w ∷ more) h = taken_by_one number w more (is_in number w) refl h (some_taken number more)
 
-suc_one : (n : ℕ) → suc n ≡ n + 1
-suc_one n = omega arith
+-- ---- the turns
 
-suc_falls : (steps : List Step) (position : ℕ) → count_by is_submit (drop (suc position) steps) ≤ count_by is_submit (drop position steps)
-suc_falls [] zero = omega arith
-suc_falls [] (suc position) = omega arith
-suc_falls (step ∷ steps) zero = first_falls step steps
-suc_falls (step ∷ steps) (suc position) = suc_falls steps position
-
-one_step : (steps : List Step) (position : ℕ) → count_by is_submit (drop (position + 1) steps) ≤ count_by is_submit (drop position steps)
-one_step steps position = subst (λ (n : ℕ). count_by is_submit (drop n steps) ≤ count_by is_submit (drop position steps)) (suc_one position) (suc_falls steps position)
-
-counted_yes : (yes : Bool) (n : ℕ) → yes ≡ true → cond yes 1 0 + n ≡ n + 1
-counted_yes true n h = omega arith
-counted_yes false n h = absurd (true≢false (sym h))
-
-first_submit : (step : Step) (steps : List Step) → is_submit step ≡ true → count_by is_submit steps + 1 ≡ count_by is_submit (step ∷ steps)
-first_submit step steps own = sym (counted_first step steps ∙ counted_yes (is_submit step) (count_by is_submit steps) own)
-
-suc_submit : (steps : List Step) (position : ℕ) (step : Step) → slice_get steps position ≡ Some step → is_submit step ≡ true
-    → count_by is_submit (drop (suc position) steps) + 1 ≡ count_by is_submit (drop position steps)
-suc_submit [] position step e own = absurd (no_some step e)
-suc_submit (first ∷ steps) zero step e own = first_submit first steps (ap is_submit (some_same first step e) ∙ own)
-suc_submit (first ∷ steps) (suc position) step e own = suc_submit steps position step e own
-
-submit_step : (steps : List Step) (position : ℕ) (step : Step) → slice_get steps position ≡ Some step → is_submit step ≡ true
-    → count_by is_submit (drop (position + 1) steps) + 1 ≡ count_by is_submit (drop position steps)
-submit_step steps position step e own =
-    subst (λ (n : ℕ). count_by is_submit (drop n steps) + 1 ≡ count_by is_submit (drop position steps)) (suc_one position) (suc_submit steps position step e own)
-
-pub left_falls : (clients : List (List Step)) (positions : List ℕ) (client : ℕ) → submits_left clients (slice_set positions client (next_at positions client + 1)) ≤ submits_left clients positions
-unfolding submits_left
-left_falls [] positions client = omega arith
-left_falls (steps ∷ more) [] client = omega arith
-left_falls (steps ∷ more) (p ∷ positions) zero = let one = one_step steps p in omega arith
-left_falls (steps ∷ more) (p ∷ positions) (suc client) = let rest = left_falls more positions client in omega arith
-
-submit_falls : (clients : List (List Step)) (positions : List ℕ) (client : ℕ) (steps : List Step) (step : Step) → length positions ≡ length clients → slice_get clients client ≡ Some steps
-    → slice_get steps (next_at positions client) ≡ Some step → is_submit step ≡ true
-    → submits_left clients (slice_set positions client (next_at positions client + 1)) + 1 ≡ submits_left clients positions
-unfolding submits_left
-submit_falls [] positions client steps step places e f own = absurd (no_some steps e)
-submit_falls (first ∷ more) [] client steps step places e f own = absurd (omega arith)
-submit_falls (first ∷ more) (p ∷ positions) zero steps step places e f own =
-    let one = submit_step first p step (ap (λ (l : List Step). slice_get l p) (some_same first steps e) ∙ f) own in omega arith
-submit_falls (first ∷ more) (p ∷ positions) (suc client) steps step places e f own =
-    let rest = submit_falls more positions client steps step (omega arith) e f own in omega arith
-
--- ---- a client's turn
-
-record IsLess (script : Script) (before now : Replay) : Type 0 where
-  book : now.book ≡ before.book
-  clock : now.clock ≡ before.clock
+-- a course whose world is as it was, and that may have no more batches
+record IsLess (script : Script) (before now : Course) : Type 0 where
+  world : now.book.world ≡ before.book.world
   left : batches_left script now ≤ batches_left script before
 
-linked_less : (script : Script) (before now : Replay) (links : List LinkMeaning) → IsLess script before now → IsLinked script before links → IsLinked script now links
+linked_less : (script : Script) (before now : Course) (links : List LinkMeaning) → IsLess script before now → IsLinked script before links → IsLinked script now links
 linked_less script before now links less linked = record {
-  of = subst (λ (b : Chronicle). AreLinksOf script.nodes b.world links) (sym less.book) linked.of;
+  of = subst (λ (w : World). AreLinksOf script.nodes w links) (sym less.world) linked.of;
   steady = all_by (IsSteady (batches_left script before)) (IsSteady (batches_left script now)) (λ l h. record { reliable = h.reliable; room = let r = h.room in let fewer = less.left in omega arith }) links linked.steady;
   faults = linked.faults;
-  clock = subst (λ (n : ℕ). n ≤ 2 ^ 43 - 2) (sym less.clock) linked.clock;
 }
 
-same_less : (script : Script) (replay : Replay) → IsLess script replay replay
-same_less script replay = record { book = refl; clock = refl; left = omega arith }
+moved_less : (script : Script) (k now : Course) (client : ℕ) → now.book.world ≡ k.book.world → now.positions ≡ moved_on k.positions client → now.waiting ≡ k.waiting → IsLess script k now
+moved_less script k now client world positions waiting = record {
+  world = world;
+  left =
+      let fewer = left_falls is_submit script.clients k.positions client in
+      let same = ap (λ (p : List ℕ). steps_left is_submit script.clients p) positions in
+      let long = ap (λ (w : List Waiting). length w) waiting in
+      omega arith;
+}
 
-await_less : (script : Script) (replay : Replay) (client : ℕ) (found : Option ℕ) → IsLess script replay (awaited_by replay client found)
-await_less script replay client None = same_less script replay
-await_less script replay client (Some batch) = record { book = refl; clock = refl; left = let fewer = left_falls script.clients replay.positions client in omega arith }
+submit_less : (script : Script) (k : Course) (client at queue : ℕ) (task : Task) (timeout : Option ℕ) (ack : Option Ack) → IsLawfulSoFar script k
+    → step_at script client (next_at k.positions client) ≡ Some (Submit queue task timeout ack) → IsLess script k (submitted_by k client at queue task timeout)
+submit_less script k client at queue task timeout ack h e =
+    let step = stood script client (next_at k.positions client) (Submit queue task timeout ack) e in
+    let fewer = kind_falls is_submit script.clients k.positions client step.steps (Submit queue task timeout ack) h.performed.places step.of_client step.of_steps refl in
+    let longer = length-append k.waiting (waiting_of client (next_at k.positions client) queue task ∷ []) in
+    record { world = refl; left = omega arith }
 
-step_less : (script : Script) (replay : Replay) (client : ℕ) (found : Option Step) → step_at script client (next_at replay.positions client) ≡ found → IsSound script replay
-    → IsLess script replay (step_turn replay client found)
-step_less script replay client None e sound = same_less script replay
-step_less script replay client (Some (Submit queue task timeout ack)) e sound =
-    let at = stood script client (next_at replay.positions client) (Submit queue task timeout ack) e in
-    let fewer = submit_falls script.clients replay.positions client at.steps (Submit queue task timeout ack) sound.places at.of_client at.of_steps refl in
-    let longer = length-append replay.waiting (waiting_of replay client queue ∷ []) in
-    record { book = refl; clock = refl; left = omega arith }
-step_less script replay client (Some (Await earlier goal.Task)) e sound = await_less script replay client (batch_told replay.told client earlier)
-step_less script replay client (Some (Await earlier goal.Ack)) e sound = same_less script replay
-step_less script replay client (Some (Await earlier goal.Watch)) e sound = same_less script replay
-step_less script replay client (Some (Watch _ _ _ _)) e sound = same_less script replay
-step_less script replay client (Some (Next _ _ _ _)) e sound = same_less script replay
-step_less script replay client (Some (Read _ _)) e sound = same_less script replay
-step_less script replay client (Some (Sleep _)) e sound = same_less script replay
-step_less script replay client (Some Close) e sound = same_less script replay
+await_less : (script : Script) (k now : Course) (client : ℕ) (found : Option ℕ) → awaited_by k client found ≡ Some now → IsLess script k now
+await_less script k now client None e = absurd (no_some now e)
+await_less script k now client (Some batch) e =
+    let same = some_same _ now e in
+    moved_less script k now client (ap (λ (c : Course). c.book.world) (sym same)) (ap (λ (c : Course). c.positions) (sym same)) (ap (λ (c : Course). c.waiting) (sym same))
 
-pub linked_by_client : (script : Script) (client : ℕ) (replay now : Replay) → IsSound script replay → now ≡ client_turn script client replay
-    → (links : List LinkMeaning) → IsLinked script replay links → IsLinked script now links
-linked_by_client script client replay now sound e links linked =
-    subst (λ (r : Replay). IsLinked script r links) (sym e)
-    (linked_less script replay (client_turn script client replay) links (step_less script replay client (step_at script client (next_at replay.positions client)) refl sound) linked)
+step_less : (script : Script) (k now : Course) (client at : ℕ) (found : Option Step) → IsLawfulSoFar script k → step_at script client (next_at k.positions client) ≡ found
+    → step_by k client at found ≡ Some now → IsLess script k now
+step_less script k now client at None h e f = absurd (no_some now f)
+step_less script k now client at (Some (Submit queue task timeout ack)) h e f =
+    subst (IsLess script k) (some_same _ now f) (submit_less script k client at queue task timeout ack h e)
+step_less script k now client at (Some (Await earlier goal.Task)) h e f = await_less script k now client (batch_told (word_of k.tasks client earlier)) f
+step_less script k now client at (Some (Await earlier goal.Ack)) h e f = absurd (no_some now f)
+step_less script k now client at (Some (Await earlier goal.Watch)) h e f = absurd (no_some now f)
+step_less script k now client at (Some (Watch _ _ _ _)) h e f = absurd (no_some now f)
+step_less script k now client at (Some (Next _ _ _ _)) h e f = absurd (no_some now f)
+step_less script k now client at (Some (Read _ _)) h e f = absurd (no_some now f)
+step_less script k now client at (Some (Sleep ms)) h e f =
+    let same = some_same _ now f in
+    moved_less script k now client (ap (λ (c : Course). c.book.world) (sym same)) (ap (λ (c : Course). c.positions) (sym same)) (ap (λ (c : Course). c.waiting) (sym same))
+step_less script k now client at (Some Close) h e f = absurd (no_some now f)
 
--- ---- the master's turn
+-- a client that performs a step uses no link
+pub linked_by_step : (script : Script) (k now : Course) (client at : ℕ) (links : List LinkMeaning) → IsLawfulSoFar script k → performed script client at k ≡ Some now → IsLinked script k links
+    → IsLinked script now links
+linked_by_step script k now client at links h e linked =
+    linked_less script k now links (step_less script k now client at (next_step_of script k client) h refl e) linked
+
+mapped_links : (script : Script) (k now : Course) (clock : ℕ) (step : Option Step) (links : List LinkMeaning) → IsLinked script now links → IsLinked script (after_step step (at_clock clock now)).course links
+mapped_links script k now clock None links h = h
+mapped_links script k now clock (Some (Submit _ _ _ _)) links h = h
+mapped_links script k now clock (Some (Await _ _)) links h = h
+mapped_links script k now clock (Some (Watch _ _ _ _)) links h = h
+mapped_links script k now clock (Some (Next _ _ _ _)) links h = h
+mapped_links script k now clock (Some (Read _ _)) links h = h
+mapped_links script k now clock (Some (Sleep ms)) links h = record { of = h.of; steady = h.steady; faults = h.faults }
+mapped_links script k now clock (Some Close) links h = h
+
+turn_links : (script : Script) (client : ℕ) (s t : Serial) (o : Option Course) (acted : Bool) (links : List LinkMeaning) → performed script client s.clock s.course ≡ o → IsLawfulSoFar script s.course
+    → after_turn (false, s) (option_map (λ k. after_step (next_step_of script s.course client) (at_clock s.clock k)) o) ≡ (acted, t) → IsLinked script s.course links → IsLinked script t.course links
+turn_links script client s t None acted links e h f linked = subst (λ (u : Serial). IsLinked script u.course links) (ap (λ (p : Bool × Serial). p.1) f) linked
+turn_links script client s t (Some k) acted links e h f linked =
+    subst (λ (u : Serial). IsLinked script u.course links) (ap (λ (p : Bool × Serial). p.1) f)
+    (mapped_links script s.course k s.clock (next_step_of script s.course client) links (linked_by_step script s.course k client s.clock links h e linked))
+
+-- a client's turn uses no link
+pub linked_by_client : (script : Script) (client : ℕ) (s t : Serial) (acted : Bool) → IsLawfulSoFar script s.course → after_turn (false, s) (client_turn script client s) ≡ (acted, t)
+    → (links : List LinkMeaning) → IsLinked script s.course links → IsLinked script t.course links
+linked_by_client script client s t acted h f links linked = turn_links script client s t (performed script client s.clock s.course) acted links refl h f linked
+
+pub client_links_if : (result : Result Bool OutOfMemory) (script : Script) (client : ℕ) (before now : Replay) → IsLawfulSoFar script (course_of before)
+    → IfOk result (λ acted. after_turn (false, serial_of before) (client_turn script client (serial_of before)) ≡ (acted, serial_of now))
+    → OnOk result ((links : List LinkMeaning) → IsLinked script (course_of before) links → IsLinked script (course_of now) links)
+client_links_if (Ok acted) script client before now h e = linked_by_client script client (serial_of before) (serial_of now) acted h e
+client_links_if (Err fault) script client before now h e = tt
 
 -- what waits is more than what is left of it
-fewer_left : (script : Script) (replay : Replay) (number : ℕ) → IsSound script replay → next_queue script.queues replay.waiting ≡ Some number
-    → submits_left script.clients replay.positions + length (left_by number replay.waiting) + 1 ≤ batches_left script replay
-fewer_left script replay number sound e =
-    let some = served_some script replay number sound e in
-    let both = length-filter_both (is_in number) (λ (w : Waiting). not (is_in number w)) (λ w. refl) replay.waiting in
+pub fewer_wait : (number : ℕ) (waiting : List Waiting) → has_some_in number waiting ≡ true → length (left_by number waiting) + 1 ≤ length waiting
+fewer_wait number waiting some =
+    let taken = some_taken number waiting some in
+    let both = length-filter_both (is_in number) (λ (w : Waiting). not (is_in number w)) (λ w. refl) waiting in
     omega arith
 
-pub rooms_left : (script : Script) (replay : Replay) (number : ℕ) (links : List LinkMeaning) → IsSound script replay → next_queue script.queues replay.waiting ≡ Some number
-    → IsLinked script replay links → HaveRoom links
-rooms_left script replay number links sound e linked =
-    let fewer = fewer_left script replay number sound e in
-    all_by (IsSteady (batches_left script replay)) (λ (l : LinkMeaning). 0 < l.room) (λ l h. let r = h.room in omega arith) links linked.steady
+pub rooms_left : (script : Script) (k : Course) (number : ℕ) (links : List LinkMeaning) → has_some_in number k.waiting ≡ true → IsLinked script k links → HaveRoom links
+rooms_left script k number links some linked =
+    let fewer = fewer_wait number k.waiting some in
+    all_by (IsSteady (batches_left script k)) (λ (l : LinkMeaning). 0 < l.room) (λ l h. let r = h.room in omega arith) links linked.steady
 
-pub linked_by_master : (script : Script) (replay now : Replay) (number : ℕ) (before after : List LinkMeaning) → IsSound script replay → next_queue script.queues replay.waiting ≡ Some number
-    → IsLinked script replay before → now ≡ served script replay number → AreLinksOf script.nodes now.book.world after → AreUsed before after → IsLinked script now after
-linked_by_master script replay now number before after sound e linked is of used =
-    let fewer = fewer_left script replay number sound e in
-    let left : batches_left script now ≡ submits_left script.clients replay.positions + length (left_by number replay.waiting) = ap (batches_left script) is in
+-- the master's batch uses one commit of each at most
+pub linked_by_batch : (script : Script) (k now : Course) (number : ℕ) (before after : List LinkMeaning) → has_some_in number k.waiting ≡ true → IsLinked script k before
+    → now.positions ≡ k.positions → now.waiting ≡ left_by number k.waiting → AreLinksOf script.nodes now.book.world after → AreUsed before after → IsLinked script now after
+linked_by_batch script k now number before after some linked positions waiting of used =
+    let fewer = fewer_wait number k.waiting some in
+    let long = ap (λ (w : List Waiting). length w) waiting in
+    let same = ap (λ (p : List ℕ). steps_left is_submit script.clients p) positions in
     record {
       of = of;
-      steady = steady_on (batches_left script replay) (batches_left script now) before after (omega arith) linked.steady used;
+      steady = steady_on (batches_left script k) (batches_left script now) before after (omega arith) linked.steady used;
       faults = linked.faults;
-      clock = subst (λ (n : ℕ). n ≤ 2 ^ 43 - 2) (sym (ap (λ (r : Replay). r.clock) is)) linked.clock;
     }
+
+-- where its batch is none, no link was used
+pub linked_by_none : (script : Script) (k now : Course) (number : ℕ) (links : List LinkMeaning) → has_some_in number k.waiting ≡ true → IsLinked script k links
+    → now.book ≡ k.book → now.positions ≡ k.positions → now.waiting ≡ left_by number k.waiting → IsLinked script now links
+linked_by_none script k now number links some linked book positions waiting =
+    let fewer = fewer_wait number k.waiting some in
+    let long = ap (λ (w : List Waiting). length w) waiting in
+    let same = ap (λ (p : List ℕ). steps_left is_submit script.clients p) positions in
+    linked_less script k now links (record { world = ap (λ (b : Chronicle). b.world) book; left = omega arith }) linked
 
 -- ---- at first
 
@@ -313,31 +321,22 @@ steady_first left room [] have h = tt
 steady_first left room (node ∷ nodes) [] h = tt
 steady_first left room (node ∷ nodes) (has ∷ have) h = (record { reliable = refl; room = h }, steady_first left room nodes have h)
 
-left_first : (clients : List (List Step)) → submits_left clients (map (λ steps. 0) clients) ≡ count_by is_submit (flat_map (λ steps. steps) clients)
-unfolding submits_left
-left_first [] = refl
-left_first (steps ∷ more) =
-    let rest = left_first more in
-    let both = sum_by-append (λ (s : Step). cond (is_submit s) 1 0) steps (flat_map (λ (steps : List Step). steps) more) in
-    omega arith
-
 pub first_linked : (script : Script) (links : List LinkMeaning) → script.faults ≡ [] → links ≡ links_for (room_for script) script.nodes (first_world script).nodes
-    → IsLinked script (first_replay script) links
+    → IsLinked script (first_course script) links
 unfolding first_world
 first_linked script links none is =
     let first = first_state_of script in
     let empty = zero_state script.cluster in
-    let left = left_first script.clients in
-    subst (IsLinked script (first_replay script)) (sym is) (record {
+    let left = left_first is_submit script.clients in
+    subst (IsLinked script (first_course script)) (sym is) (record {
       of = record { names = names_first (room_for script) first empty script.nodes; held = held_first (room_for script) first empty script.nodes };
-      steady = steady_first (batches_left script (first_replay script)) (room_for script) script.nodes (map (first_node first empty) script.nodes) (omega arith);
+      steady = steady_first (batches_left script (first_course script)) (room_for script) script.nodes (map (first_node first empty) script.nodes) (omega arith);
       faults = none;
-      clock = omega arith;
     })
 
-pub begins_linked : (script : Script) (replay : Replay) (world : World) (links : List LinkMeaning) → IsBuilt script → replay ≡ first_replay script → world ≡ replay.book.world
-    → links ≡ links_for (room_for script) script.nodes world.nodes → IsLinked script replay links
-begins_linked script replay world links built first has is =
-    let at : world ≡ first_world script = has ∙ ap (λ (r : Replay). r.book.world) first in
-    subst (λ (r : Replay). IsLinked script r links) (sym first)
+pub begins_linked : (script : Script) (s : Serial) (world : World) (links : List LinkMeaning) → IsBuilt script → s ≡ first_serial script → world ≡ s.course.book.world
+    → links ≡ links_for (room_for script) script.nodes world.nodes → IsLinked script s.course links
+begins_linked script s world links built first has is =
+    let at : world ≡ first_world script = has ∙ ap (λ (t : Serial). t.course.book.world) first in
+    subst (λ (t : Serial). IsLinked script t.course links) (sym first)
     (first_linked script links (faults_built script built) (is ∙ ap (λ (w : World). links_for (room_for script) script.nodes w.nodes) at))

@@ -9,7 +9,7 @@ use Rattle.scripts.specs.declared.steps.Step.TheVariants.{Submit, Await, Watch, 
 use Rattle.scripts.specs.Scripts.{IsScript}
 use Rattle.scripts.specs.ValidSteps.{are_steps, is_client, is_goal, is_step}
 use Rattle.session_law.specs.Histories.{step_at}
-use Rattle.master_run.specs.Soundness.{is_submit_at}
+use Rattle.master_run.specs.SoFar.{is_submit_at}
 use Rattle.master_run.proofs.Bounds.{all_get, stood}
 use Rattle.master_run.proofs.Keeping.{both_first, both_second, no_some, some_same}
 

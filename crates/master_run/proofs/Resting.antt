@@ -1,353 +1,407 @@
--- The rounds of a replay come to rest: each but the last performs a step or takes an entry, and of both there are few.
-use Rattle.std.specs.Prelude.{◌≡◌, ℕ, zero, suc, ◌+◌, ◌-◌, ◌<◌, ◌≤◌, ◌⊎◌, Bool, true, false, not, List, [], ◌∷◌, length, map, flat_map, Option, Some, None, option_and_then, is_some, slice_get, slice_set, refl, if◌then◌else◌}
+-- The rounds come to rest: every turn that acts leaves less to do. Where no turn of a round acts, nothing waits and every
+-- client is at its end.
+use Rattle.std.specs.Prelude.{◌≡◌, ℕ, zero, suc, ◌+◌, ◌<◌, ◌≤◌, ◌⊎◌, Bool, true, false, ◌&&◌, List, [], ◌∷◌, ◌++◌, drop, length, map, nat_lt, Option, Some, None, option_and_then, unwrap_or, slice_get, refl, if◌then◌else◌}
+use Rattle.std.specs.Option.{option_map}
 use Rattle.std.proofs.Common.{sym, ◌∙◌, ap, subst, arith, inl, inr}
 use Rattle.std.proofs.Math.Bool.{true≢false}
-use Rattle.std.specs.BTreeMap.{is_at}
-use Rattle.std.specs.List.{AllByRecursion}
-use Rattle.std.specs.Map.{lookup}
-use Rattle.std.specs.Option.{option_map}
-use Rattle.std.proofs.lemmas.List.{length-append, length-map}
-use Rattle.std.proofs.lemmas.List.Filters.{length-filter_both}
-use Rattle.std.proofs.lemmas.Option.{slice_get_within}
+use Rattle.std.proofs.lemmas.Bool.Decides.{nat_tests}
+use Rattle.std.proofs.lemmas.List.{length-append}
+use Rattle.std.specs.List.{AllByRecursion, list_any}
+use Rattle.executors.specs.declared.tasks.Task.{Task}
 use Rattle.scripts.specs.declared.whole_script.Script.{Script}
+use Rattle.scripts.specs.declared.whole_script.ScriptNode.{ScriptNode}
+use Rattle.scripts.specs.declared.whole_script.ScriptTurn.{ScriptTurn}
+use Rattle.scripts.specs.declared.whole_script.ScriptTurn.TheVariants as turn
+use Rattle.scripts.specs.declared.steps.Ack.{Ack}
 use Rattle.scripts.specs.declared.steps.Goal.TheVariants as goal
 use Rattle.scripts.specs.declared.steps.Step.{Step}
 use Rattle.scripts.specs.declared.steps.Step.TheVariants.{Submit, Await, Watch, Next, Read, Sleep, Close}
 use Rattle.scripts.specs.Built.{IsBuilt}
 use Rattle.scripts.specs.Scripts.{IsScript}
-use Rattle.session_law.specs.declared.worlds.World.{World}
+use Rattle.session_law.specs.declared.batches.Entry.{Entry}
+use Rattle.session_law.specs.Endings.{task_timeout_of}
 use Rattle.session_law.specs.Histories.{step_at}
-use Rattle.session_law.proofs.History.{tasks_stand_once, versions_are_in_order}
-use Rattle.master_run.specs.declared.replays.Replay.{Replay}
-use Rattle.master_run.specs.declared.tellings.Telling.{Telling}
-use Rattle.master_run.specs.declared.waitings.Waiting.{Waiting}
-use Rattle.master_run.specs.Replays.{begun, client_turns, most_rounds, performed, replayed, round_of, rounds}
-use Rattle.master_run.specs.SerialSessions.{IsSerialSession}
+use Rattle.task_words.specs.declared.words.Word.{Word}
+use Rattle.task_words.specs.declared.words.Word.TheVariants as word
+use Rattle.master_intake.specs.declared.entries.Waiting.{Waiting}
+use Rattle.master_intake.specs.Waitings.{left_by, next_queue, priorities_of}
+use Rattle.master_run.specs.Courses.{Course, moment_at, next_at, word_of}
+use Rattle.master_run.specs.Events.{Event, event}
 use Rattle.master_run.specs.Rests.{IsAtRest}
-use Rattle.master_run.specs.Soundness.{IsSound}
-use Rattle.master_run.specs.Tellings.{batch_told, step_cmp}
-use Rattle.master_run.specs.Turns.{awaited_by, client_turn, first_replay, next_at, queue_turn, step_turn, waiting_of}
-use Rattle.master_run.specs.Waitings.{is_in, next_queue}
-use Rattle.master_run.proofs.Alls.{either}
+use Rattle.master_run.specs.Serials.{Serial, after_step, after_turn, at_clock, client_turn, client_turns, go_on, if_acted, load, master_turn, play, rest, round_turns, turn_of, turned}
+use Rattle.master_run.specs.Servings.{got_from, has_some_in, ran, served}
+use Rattle.master_run.specs.SoFar.{IsLawfulSoFar, IsWordLawful, is_entry_of, is_over, is_passed, is_vacant}
+use Rattle.master_run.specs.Steps.{awaited_by, batch_told, moved_on, next_step_of, performed, step_by, submitted_by, waiting_of}
+use Rattle.master_run.specs.StepsLeft.{always, steps_left}
 use Rattle.master_run.proofs.Bounds.{stood}
-use Rattle.master_run.proofs.Holding.{told_at_rest}
-use Rattle.master_run.proofs.Keeping.{kept_first, no_some, some_same}
-use Rattle.master_run.proofs.Serving.{master_sound, served_some}
-use Rattle.master_run.proofs.Submitting.{client_sound}
+use Rattle.master_run.proofs.Keeping.{no_some, not_true, some_same}
+use Rattle.master_run.proofs.Linking.{fewer_wait}
 use Rattle.master_run.proofs.Naming.{awaits_submit}
+use Rattle.master_run.proofs.StepsLeft.{kind_falls}
 use Rattle.master_run.proofs.Taken.{built_at}
+use Rattle.master_run.proofs.Turning.{IsOnTime, client_keeps, mapped, master_keeps, next_waits}
 
--- ---- sound from the first turn on
+-- ---- a step that is performed leaves less
 
-zeros_within : (clients : List (List Step)) → AllByRecursion (λ number. number ≤ 0) (map (λ steps. 0) clients)
-zeros_within [] = tt
-zeros_within (steps ∷ more) = (omega arith, zeros_within more)
+submit_falls : (script : Script) (k : Course) (client at queue : ℕ) (task : Task) (timeout : Option ℕ) (ack : Option Ack) → IsLawfulSoFar script k
+    → step_at script client (next_at k.positions client) ≡ Some (Submit queue task timeout ack) → load script (submitted_by k client at queue task timeout) < load script k
+submit_falls script k client at queue task timeout ack h e =
+    let step = stood script client (next_at k.positions client) (Submit queue task timeout ack) e in
+    let fewer = kind_falls always script.clients k.positions client step.steps (Submit queue task timeout ack) h.performed.places step.of_client step.of_steps refl in
+    let longer = length-append k.waiting (waiting_of client (next_at k.positions client) queue task ∷ []) in
+    omega arith
 
-zero_next : (clients : List (List Step)) (client : ℕ) → next_at (map (λ steps. 0) clients) client ≡ 0
-zero_next [] client = refl
-zero_next (steps ∷ more) zero = refl
-zero_next (steps ∷ more) (suc client) = zero_next more client
+moved_falls : (script : Script) (k now : Course) (client : ℕ) (step : Step) → IsLawfulSoFar script k → step_at script client (next_at k.positions client) ≡ Some step
+    → now.positions ≡ moved_on k.positions client → now.waiting ≡ k.waiting → load script now < load script k
+moved_falls script k now client step h e positions waiting =
+    let at = stood script client (next_at k.positions client) step e in
+    let fewer = kind_falls always script.clients k.positions client at.steps step h.performed.places at.of_client at.of_steps refl in
+    let same = ap (λ (p : List ℕ). steps_left always script.clients p) positions in
+    let long = ap (λ (w : List Waiting). length w) waiting in
+    omega arith
 
-none_before : (n m : ℕ) → m ≡ 0 → n < m → ⊥
-none_before n m none less = omega arith
+await_falls : (script : Script) (k now : Course) (client earlier : ℕ) (found : Option ℕ) → IsLawfulSoFar script k → step_at script client (next_at k.positions client) ≡ Some (Await earlier goal.Task)
+    → awaited_by k client found ≡ Some now → load script now < load script k
+await_falls script k now client earlier None h e f = absurd (no_some now f)
+await_falls script k now client earlier (Some batch) h e f =
+    let same = some_same _ now f in
+    moved_falls script k now client (Await earlier goal.Task) h e (ap (λ (c : Course). c.positions) (sym same)) (ap (λ (c : Course). c.waiting) (sym same))
 
-pub first_sound : (script : Script) → IsSound script (first_replay script)
-first_sound script = record {
-  places = length-map script.clients (λ (steps : List Step). 0);
-  kept = kept_first script;
-  passed = tt;
-  waiting = tt;
-  apart = tt;
-  among = tt;
-  awaited_places = length-map script.clients (λ (steps : List Step). 0);
-  awaited = zeros_within script.clients;
-  told = tt;
-  held = λ client step less own. absurd (none_before step (next_at (map (λ steps. 0) script.clients) client) (zero_next script.clients client) less);
-}
+step_falls : (script : Script) (k now : Course) (client at : ℕ) (found : Option Step) → IsLawfulSoFar script k → step_at script client (next_at k.positions client) ≡ found
+    → step_by k client at found ≡ Some now → load script now < load script k
+step_falls script k now client at None h e f = absurd (no_some now f)
+step_falls script k now client at (Some (Submit queue task timeout ack)) h e f =
+    subst (λ (c : Course). load script c < load script k) (some_same _ now f) (submit_falls script k client at queue task timeout ack h e)
+step_falls script k now client at (Some (Await earlier goal.Task)) h e f = await_falls script k now client earlier (batch_told (word_of k.tasks client earlier)) h e f
+step_falls script k now client at (Some (Await earlier goal.Ack)) h e f = absurd (no_some now f)
+step_falls script k now client at (Some (Await earlier goal.Watch)) h e f = absurd (no_some now f)
+step_falls script k now client at (Some (Watch _ _ _ _)) h e f = absurd (no_some now f)
+step_falls script k now client at (Some (Next _ _ _ _)) h e f = absurd (no_some now f)
+step_falls script k now client at (Some (Read _ _)) h e f = absurd (no_some now f)
+step_falls script k now client at (Some (Sleep ms)) h e f =
+    let same = some_same _ now f in
+    moved_falls script k now client (Sleep ms) h e (ap (λ (c : Course). c.positions) (sym same)) (ap (λ (c : Course). c.waiting) (sym same))
+step_falls script k now client at (Some Close) h e f = absurd (no_some now f)
 
-pub begins_sound : (script : Script) (made : Replay) → made ≡ first_replay script → IsSound script made
-begins_sound script made e = subst (IsSound script) (sym e) (first_sound script)
+after_load : (script : Script) (s : Serial) (step : Option Step) → load script (after_step step s).course ≡ load script s.course
+after_load script s None = refl
+after_load script s (Some (Submit _ _ _ _)) = refl
+after_load script s (Some (Await _ _)) = refl
+after_load script s (Some (Watch _ _ _ _)) = refl
+after_load script s (Some (Next _ _ _ _)) = refl
+after_load script s (Some (Read _ _)) = refl
+after_load script s (Some (Sleep ms)) = refl
+after_load script s (Some Close) = refl
 
-pub begun_sound : (script : Script) (replay : Replay) → IsSound script replay → IsSound script (begun replay)
-begun_sound script replay sound = record {
-  places = sound.places;
-  kept = sound.kept;
-  passed = sound.passed;
-  waiting = sound.waiting;
-  apart = sound.apart;
-  among = sound.among;
-  awaited_places = sound.awaited_places;
-  awaited = sound.awaited;
-  told = sound.told;
-  held = sound.held;
-}
+client_falls : (script : Script) (client : ℕ) (s t : Serial) → IsLawfulSoFar script s.course → client_turn script client s ≡ Some t → load script t.course < load script s.course
+client_falls script client s t h e =
+    let step = next_step_of script s.course client in
+    let m = mapped (λ k. after_step step (at_clock s.clock k)) (performed script client s.clock s.course) t e in
+    let same = after_load script (at_clock s.clock m.from) step in
+    let falls = step_falls script s.course m.from client s.clock step h refl m.found in
+    subst (λ (u : Serial). load script u.course < load script s.course) m.is (omega arith)
 
-turns_sound : (script : Script) (client : ℕ) (all : List (List Step)) (replay : Replay) → IsScript script → IsSound script replay → IsSound script (client_turns script client all replay)
-turns_sound script client [] replay valid sound = sound
-turns_sound script client (steps ∷ more) replay valid sound = turns_sound script (client + 1) more (client_turn script client replay) valid (client_sound script client replay valid sound)
+-- ---- a queue that is served leaves less
 
-pub round_sound : (script : Script) (replay : Replay) → IsScript script → IsSound script replay → IsSound script (round_of script replay)
-round_sound script replay valid sound =
-    master_sound script (client_turns script 0 script.clients (begun replay)) valid (turns_sound script 0 script.clients (begun replay) valid (begun_sound script replay sound))
+ran_load : (script : Script) (queue at commit : ℕ) (k : Course) (entries : List Entry) → load script (ran script queue at commit k entries) ≡ load script k
+ran_load script queue at commit k [] = refl
+ran_load script queue at commit k (first ∷ more) = refl
 
--- ---- what is left to do
+serve_falls : (script : Script) (s t : Serial) (queue : ℕ) (b : Bool) → has_some_in queue s.course.waiting ≡ b
+    → option_map (at_clock s.clock) (if b then Some (served script queue s.clock s.clock s.course) else None) ≡ Some t → load script t.course < load script s.course
+serve_falls script s t queue true some e =
+    let k = s.course in
+    let same = ran_load script queue s.clock s.clock (record k { waiting = left_by queue k.waiting; tasks = (got_from queue k).tasks }) (got_from queue k).entries in
+    let fewer = fewer_wait queue k.waiting some in
+    subst (λ (u : Serial). load script u.course < load script s.course) (some_same _ t e) (omega arith)
+serve_falls script s t queue false some e = absurd (no_some t e)
 
-unfoldable pub steps_left : List (List Step) → List ℕ → ℕ
-steps_left [] positions = 0
-steps_left (steps ∷ more) [] = 0
-steps_left (steps ∷ more) (position ∷ positions) = (length steps - position) + steps_left more positions
+queue_falls : (script : Script) (s t : Serial) (queue : Option ℕ)
+    → option_and_then (λ q. option_map (at_clock s.clock) (event script (Event.Serve q s.clock s.clock) s.course)) queue ≡ Some t → load script t.course < load script s.course
+queue_falls script s t None e = absurd (no_some t e)
+queue_falls script s t (Some queue) e = serve_falls script s t queue (has_some_in queue s.course.waiting) refl e
 
-load : Script → Replay → ℕ
-load script replay = steps_left script.clients replay.positions + steps_left script.clients replay.positions + length replay.waiting
+turn_falls : (script : Script) (turn : ScriptTurn) (s t : Serial) → IsLawfulSoFar script s.course → turn_of script turn s ≡ Some t → load script t.course < load script s.course
+turn_falls script (turn.Client client) s t h e = client_falls script client s t h e
+turn_falls script turn.Master s t h e = queue_falls script s t (next_queue (priorities_of script.queues) s.course.waiting) e
+turn_falls script (turn.Node name) s t h e = absurd (no_some t e)
 
-pub one_less : (clients : List (List Step)) (positions : List ℕ) (client : ℕ) (steps : List Step) → length positions ≡ length clients → slice_get clients client ≡ Some steps
-    → next_at positions client < length steps → steps_left clients (slice_set positions client (next_at positions client + 1)) + 1 ≡ steps_left clients positions
-unfolding steps_left
-one_less [] positions client steps places e less = absurd (no_some steps e)
-one_less (first ∷ more) [] client steps places e less = absurd (omega arith)
-one_less (first ∷ more) (p ∷ positions) zero steps places e less = let same = ap (λ (l : List Step). length l) (some_same first steps e) in omega arith
-one_less (first ∷ more) (p ∷ positions) (suc client) steps places e less = let rest = one_less more positions client steps (omega arith) e less in omega arith
+-- ---- turns in a row
 
--- a turn leaves all as it was, or less is left to do
-abbrev Goes : Script → Replay → Replay → Type 0
-Goes script before now = (now ≡ before) ⊎ (load script now < load script before)
+-- turns left all as it was, or one has acted and less is left to do
+abbrev Goes : Script → Bool × Serial → Bool × Serial → Type 0
+Goes script before after = (after ≡ before) ⊎ ((after.0 ≡ true) × (load script after.1.course < load script before.1.course))
 
-goes_on : (script : Script) (a b c : Replay) → Goes script a b → Goes script b c → Goes script a c
-goes_on script a b c (inl e) (inl f) = inl (f ∙ e)
-goes_on script a b c (inl e) (inr less) = inr (let same = ap (load script) e in omega arith)
-goes_on script a b c (inr less) (inl f) = inr (let same = ap (load script) f in omega arith)
-goes_on script a b c (inr less) (inr more) = inr (omega arith)
+one_goes : (script : Script) (before : Bool × Serial) (o : Option Serial) → ((t : Serial) → o ≡ Some t → load script t.course < load script before.1.course) → Goes script before (after_turn before o)
+one_goes script before None f = inl refl
+one_goes script before (Some t) f = inr (refl, f t refl)
 
-await_goes : (script : Script) (replay : Replay) (client earlier : ℕ) (found : Option ℕ) → step_at script client (next_at replay.positions client) ≡ Some (Await earlier goal.Task)
-    → IsSound script replay → Goes script replay (awaited_by replay client found)
-unfolding load
-await_goes script replay client earlier None e sound = inl refl
-await_goes script replay client earlier (Some batch) e sound =
-    let at = stood script client (next_at replay.positions client) (Await earlier goal.Task) e in
-    let within = slice_get_within at.steps (next_at replay.positions client) (Await earlier goal.Task) at.of_steps in
-    let less = one_less script.clients replay.positions client at.steps sound.places at.of_client within in
-    inr (omega arith)
+goes_on : (script : Script) (a b c : Bool × Serial) → (b.0 ≡ true → c.0 ≡ true) → Goes script a b → Goes script b c → Goes script a c
+goes_on script a b c stays (inl e) (inl f) = inl (f ∙ e)
+goes_on script a b c stays (inl e) (inr less) = inr (less.0, (let same = ap (λ (p : Bool × Serial). load script p.1.course) e in let l = less.1 in omega arith))
+goes_on script a b c stays (inr less) (inl f) = inr (ap (λ (p : Bool × Serial). p.0) f ∙ less.0, (let same = ap (λ (p : Bool × Serial). load script p.1.course) f in let l = less.1 in omega arith))
+goes_on script a b c stays (inr less) (inr more) = inr (more.0, (let l = less.1 in let m = more.1 in omega arith))
 
-step_goes : (script : Script) (replay : Replay) (client : ℕ) (found : Option Step) → step_at script client (next_at replay.positions client) ≡ found → IsSound script replay
-    → Goes script replay (step_turn replay client found)
-unfolding load
-step_goes script replay client None e sound = inl refl
-step_goes script replay client (Some (Submit queue task timeout ack)) e sound =
-    let at = stood script client (next_at replay.positions client) (Submit queue task timeout ack) e in
-    let within = slice_get_within at.steps (next_at replay.positions client) (Submit queue task timeout ack) at.of_steps in
-    let less = one_less script.clients replay.positions client at.steps sound.places at.of_client within in
-    let longer = length-append replay.waiting (waiting_of replay client queue ∷ []) in
-    inr (omega arith)
-step_goes script replay client (Some (Await earlier goal.Task)) e sound = await_goes script replay client earlier (batch_told replay.told client earlier) e sound
-step_goes script replay client (Some (Await earlier goal.Ack)) e sound = inl refl
-step_goes script replay client (Some (Await earlier goal.Watch)) e sound = inl refl
-step_goes script replay client (Some (Watch _ _ _ _)) e sound = inl refl
-step_goes script replay client (Some (Next _ _ _ _)) e sound = inl refl
-step_goes script replay client (Some (Read _ _)) e sound = inl refl
-step_goes script replay client (Some (Sleep _)) e sound = inl refl
-step_goes script replay client (Some Close) e sound = inl refl
+one_stays : (before : Bool × Serial) (o : Option Serial) → before.0 ≡ true → (after_turn before o).0 ≡ true
+one_stays before None e = e
+one_stays before (Some t) e = refl
 
-turns_go : (script : Script) (client : ℕ) (all : List (List Step)) (replay : Replay) → IsScript script → IsSound script replay → Goes script replay (client_turns script client all replay)
-turns_go script client [] replay valid sound = inl refl
-turns_go script client (steps ∷ more) replay valid sound =
-    goes_on script replay (client_turn script client replay) (client_turns script (client + 1) more (client_turn script client replay))
-    (step_goes script replay client (step_at script client (next_at replay.positions client)) refl sound)
-    (turns_go script (client + 1) more (client_turn script client replay) valid (client_sound script client replay valid sound))
+play_stays : (script : Script) (turns : List ScriptTurn) (before : Bool × Serial) → before.0 ≡ true → (play script turns before).0 ≡ true
+play_stays script [] before e = e
+play_stays script (first ∷ more) before e = play_stays script more (turned script before first) (one_stays before (turn_of script first before.1) e)
 
-queue_goes : (script : Script) (replay : Replay) (found : Option ℕ) → next_queue script.queues replay.waiting ≡ found → IsSound script replay → Goes script replay (queue_turn script replay found)
-unfolding load
-queue_goes script replay None e sound = inl refl
-queue_goes script replay (Some number) e sound =
-    let some = served_some script replay number sound e in
-    let both = length-filter_both (is_in number) (λ (w : Waiting). not (is_in number w)) (λ w. refl) replay.waiting in
-    inr (omega arith)
+after_on_time : (script : Script) (turn : ScriptTurn) (before : Bool × Serial) (o : Option Serial) → turn_of script turn before.1 ≡ o → IsScript script → IsOnTime script before.1
+    → IsOnTime script (after_turn before o).1
+after_on_time script turn before None e valid h = h
+after_on_time script (turn.Client client) before (Some t) e valid h = client_keeps script client before.1 t valid h e
+after_on_time script turn.Master before (Some t) e valid h = master_keeps script before.1 t valid h e
+after_on_time script (turn.Node name) before (Some t) e valid h = absurd (no_some t e)
 
-round_goes : (script : Script) (replay : Replay) → IsScript script → IsSound script replay → Goes script (begun replay) (round_of script replay)
-round_goes script replay valid sound =
-    let turned = client_turns script 0 script.clients (begun replay) in
-    goes_on script (begun replay) turned (round_of script replay) (turns_go script 0 script.clients (begun replay) valid (begun_sound script replay sound))
-    (queue_goes script turned (next_queue script.queues turned.waiting) refl (turns_sound script 0 script.clients (begun replay) valid (begun_sound script replay sound)))
+turned_on_time : (script : Script) (turn : ScriptTurn) (before : Bool × Serial) → IsScript script → IsOnTime script before.1 → IsOnTime script (turned script before turn).1
+turned_on_time script turn before valid h = after_on_time script turn before (turn_of script turn before.1) refl valid h
 
-less_left : (script : Script) (replay : Replay) → Goes script (begun replay) (round_of script replay) → (round_of script replay).acted ≡ true → load script (round_of script replay) < load script replay
-unfolding load
-less_left script replay (inl e) acted = absurd (true≢false (sym acted ∙ ap (λ (r : Replay). r.acted) e))
-less_left script replay (inr less) acted = less
+pub play_on_time : (script : Script) (turns : List ScriptTurn) (before : Bool × Serial) → IsScript script → IsOnTime script before.1 → IsOnTime script (play script turns before).1
+play_on_time script [] before valid h = h
+play_on_time script (first ∷ more) before valid h = play_on_time script more (turned script before first) valid (turned_on_time script first before valid h)
 
--- ---- where no turn acts
+play_goes : (script : Script) (turns : List ScriptTurn) (before : Bool × Serial) → IsScript script → IsOnTime script before.1 → Goes script before (play script turns before)
+play_goes script [] before valid h = inl refl
+play_goes script (first ∷ more) before valid h =
+    let next = turned script before first in
+    goes_on script before next (play script more next) (play_stays script more next)
+    (one_goes script before (turn_of script first before.1) (λ t e. turn_falls script first before.1 t h.lawful e))
+    (play_goes script more next valid (turned_on_time script first before valid h))
 
-await_still : (replay : Replay) (client : ℕ) (found : Option ℕ) → (awaited_by replay client found).acted ≡ false → awaited_by replay client found ≡ replay
-await_still replay client None still = refl
-await_still replay client (Some batch) still = absurd (true≢false still)
+-- where none has acted, each can't
+nothing_acts : (script : Script) (first : ScriptTurn) (more : List ScriptTurn) (s : Serial) (o : Option Serial) → turn_of script first s ≡ o → (play script more (after_turn (false, s) o)).0 ≡ false
+    → ((play script more (false, s)).0 ≡ false → AllByRecursion (λ t. turn_of script t s ≡ None) more) → AllByRecursion (λ t. turn_of script t s ≡ None) (first ∷ more)
+nothing_acts script first more s None e none rest = (e, rest none)
+nothing_acts script first more s (Some t) e none rest = absurd (true≢false (sym (play_stays script more (true, t) refl) ∙ none))
 
-step_still : (replay : Replay) (client : ℕ) (found : Option Step) → (step_turn replay client found).acted ≡ false → step_turn replay client found ≡ replay
-step_still replay client None still = refl
-step_still replay client (Some (Submit queue task timeout ack)) still = absurd (true≢false still)
-step_still replay client (Some (Await earlier goal.Task)) still = await_still replay client (batch_told replay.told client earlier) still
-step_still replay client (Some (Await earlier goal.Ack)) still = refl
-step_still replay client (Some (Await earlier goal.Watch)) still = refl
-step_still replay client (Some (Watch _ _ _ _)) still = refl
-step_still replay client (Some (Next _ _ _ _)) still = refl
-step_still replay client (Some (Read _ _)) still = refl
-step_still replay client (Some (Sleep _)) still = refl
-step_still replay client (Some Close) still = refl
+pub none_act : (script : Script) (turns : List ScriptTurn) (s : Serial) → (play script turns (false, s)).0 ≡ false → AllByRecursion (λ t. turn_of script t s ≡ None) turns
+none_act script [] s none = tt
+none_act script (first ∷ more) s none = nothing_acts script first more s (turn_of script first s) refl none (none_act script more s)
 
--- a client has no step left
-abbrev HasEnded : Script → Replay → ℕ → Type 0
-HasEnded script replay client = step_at script client (next_at replay.positions client) ≡ None
+-- ---- at rest
 
--- a client's turn doesn't act
-abbrev IsStuck : Script → Replay → ℕ → Type 0
-IsStuck script replay client = (client_turn script client replay).acted ≡ false
+goes_still : (script : Script) (s : Serial) (after : Bool × Serial) → Goes script (false, s) after → after.0 ≡ false → after.1 ≡ s
+goes_still script s after (inl e) none = ap (λ (p : Bool × Serial). p.1) e
+goes_still script s after (inr less) none = absurd (true≢false (sym less.0 ∙ none))
 
-record AreStill (script : Script) (client : ℕ) (all : List (List Step)) (replay : Replay) : Type 0 where
-  same : client_turns script client all replay ≡ replay
-  stuck : (i : ℕ) → i < length all → IsStuck script replay (client + i)
+goes_less : (script : Script) (s : Serial) (after : Bool × Serial) → Goes script (false, s) after → after.0 ≡ true → load script after.1.course < load script s.course
+goes_less script s after (inl e) some = absurd (true≢false (sym some ∙ ap (λ (p : Bool × Serial). p.0) e))
+goes_less script s after (inr less) some = less.1
 
-stuck_on : (script : Script) (replay : Replay) (client count : ℕ) → IsStuck script replay client → ((i : ℕ) → i < count → IsStuck script replay (client + 1 + i))
-    → (i : ℕ) → i < count + 1 → IsStuck script replay (client + i)
-stuck_on script replay client count first more zero less = subst (IsStuck script replay) (omega arith) first
-stuck_on script replay client count first more (suc i) less = subst (IsStuck script replay) (omega arith) (more i (omega arith))
+pub round_still : (script : Script) (s t : Serial) → IsScript script → IsOnTime script s → play script (round_turns script) (false, s) ≡ (false, t) → t ≡ s
+round_still script s t valid h e =
+    sym (ap (λ (p : Bool × Serial). p.1) e) ∙ goes_still script s (play script (round_turns script) (false, s)) (play_goes script (round_turns script) (false, s) valid h) (ap (λ (p : Bool × Serial). p.0) e)
 
-turns_rest : (script : Script) (client : ℕ) (all : List (List Step)) (replay : Replay) → (client_turns script client all replay).acted ≡ false → AreStill script client all replay
-turns_rest script client [] replay still = record { same = refl; stuck = λ i less. absurd (omega arith) }
-turns_rest script client (steps ∷ more) replay still =
-    let rest = turns_rest script (client + 1) more (client_turn script client replay) still in
-    let stuck : IsStuck script replay client = ap (λ (r : Replay). r.acted) (sym rest.same) ∙ still in
-    let one = step_still replay client (step_at script client (next_at replay.positions client)) stuck in
-    record {
-      same = rest.same ∙ one;
-      stuck = λ i less. stuck_on script replay client (length more) stuck (subst (λ (r : Replay). (i : ℕ) → i < length more → IsStuck script r (client + 1 + i)) one rest.stuck) i (omega arith);
-    }
+pub round_less : (script : Script) (s t : Serial) → IsScript script → IsOnTime script s → play script (round_turns script) (false, s) ≡ (true, t) → load script t.course < load script s.course
+round_less script s t valid h e =
+    subst (λ (u : Serial). load script u.course < load script s.course) (ap (λ (p : Bool × Serial). p.1) e)
+    (goes_less script s (play script (round_turns script) (false, s)) (play_goes script (round_turns script) (false, s) valid h) (ap (λ (p : Bool × Serial). p.0) e))
 
--- ---- what an await names was submitted, so that where nothing waits it was told
+all_first : {X : Type 0} (P : X → Type 0) (xs ys : List X) → AllByRecursion P (xs ++ ys) → AllByRecursion P xs
+all_first P [] ys all = tt
+all_first P (x ∷ xs) ys all = (all.0, all_first P xs ys all.1)
 
-told_acts : (replay : Replay) (client : ℕ) (found : Option Telling) → is_some found ≡ true → (awaited_by replay client (option_map (λ telling. telling.batch) found)).acted ≡ true
-told_acts replay client None h = absurd (true≢false (sym h))
-told_acts replay client (Some telling) h = refl
+all_later : {X : Type 0} (P : X → Type 0) (xs ys : List X) → AllByRecursion P (xs ++ ys) → AllByRecursion P ys
+all_later P [] ys all = all
+all_later P (x ∷ xs) ys all = all_later P xs ys all.1
 
-await_ends : (script : Script) (replay : Replay) (client earlier : ℕ) → IsScript script → IsSound script replay → replay.waiting ≡ []
-    → step_at script client (next_at replay.positions client) ≡ Some (Await earlier goal.Task) → (awaited_by replay client (batch_told replay.told client earlier)).acted ≡ true
-await_ends script replay client earlier valid sound empty e =
-    let named = awaits_submit script client (next_at replay.positions client) earlier valid e in
-    let told = told_at_rest script replay.positions replay.waiting replay.told client earlier empty sound.held named.0 named.1 in
-    told_acts replay client (lookup (is_at (step_cmp (client, earlier))) replay.told) told
+-- nothing waits where the master can't act
+none_served : (script : Script) (s : Serial) (queue : ℕ) (b : Bool) → has_some_in queue s.course.waiting ≡ b → b ≡ true
+    → option_map (at_clock s.clock) (if b then Some (served script queue s.clock s.clock s.course) else None) ≡ None → ⊥
+none_served script s queue true some there e = no_some (at_clock s.clock (served script queue s.clock s.clock s.course)) (sym e)
+none_served script s queue false some there e = true≢false (sym there)
 
-step_ends : (script : Script) (replay : Replay) (client : ℕ) (found : Option Step) → IsScript script → IsBuilt script → IsSound script replay → replay.waiting ≡ []
-    → step_at script client (next_at replay.positions client) ≡ found → (step_turn replay client found).acted ≡ false → found ≡ None
-step_ends script replay client None valid built sound empty e still = refl
-step_ends script replay client (Some (Submit queue task timeout ack)) valid built sound empty e still = absurd (true≢false still)
-step_ends script replay client (Some (Await earlier goal.Task)) valid built sound empty e still = absurd (true≢false (sym (await_ends script replay client earlier valid sound empty e) ∙ still))
-step_ends script replay client (Some (Await earlier goal.Ack)) valid built sound empty e still = absurd (true≢false (sym (built_at script client (next_at replay.positions client) (Await earlier goal.Ack) built e)))
-step_ends script replay client (Some (Await earlier goal.Watch)) valid built sound empty e still = absurd (true≢false (sym (built_at script client (next_at replay.positions client) (Await earlier goal.Watch) built e)))
-step_ends script replay client (Some (Watch node pred more timeout)) valid built sound empty e still = absurd (true≢false (sym (built_at script client (next_at replay.positions client) (Watch node pred more timeout) built e)))
-step_ends script replay client (Some (Next watch pred more timeout)) valid built sound empty e still = absurd (true≢false (sym (built_at script client (next_at replay.positions client) (Next watch pred more timeout) built e)))
-step_ends script replay client (Some (Read node look)) valid built sound empty e still = absurd (true≢false (sym (built_at script client (next_at replay.positions client) (Read node look) built e)))
-step_ends script replay client (Some (Sleep ms)) valid built sound empty e still = absurd (true≢false (sym (built_at script client (next_at replay.positions client) (Sleep ms) built e)))
-step_ends script replay client (Some Close) valid built sound empty e still = absurd (true≢false (sym (built_at script client (next_at replay.positions client) Close built e)))
+none_next : (script : Script) (s : Serial) (waiting : List Waiting) (queue : Option ℕ) → s.course.waiting ≡ waiting → next_queue (priorities_of script.queues) waiting ≡ queue
+    → option_and_then (λ q. option_map (at_clock s.clock) (event script (Event.Serve q s.clock s.clock) s.course)) queue ≡ None → waiting ≡ []
+none_next script s [] queue same e none = refl
+none_next script s (w ∷ more) None same e none = absurd (no_some _ (sym e))
+none_next script s (w ∷ more) (Some queue) same e none =
+    absurd (none_served script s queue (has_some_in queue s.course.waiting) refl
+    (ap (has_some_in queue) same ∙ next_waits (priorities_of script.queues) (w ∷ more) queue e) none)
 
-none_waits : (script : Script) (all : List Waiting) → next_queue script.queues all ≡ None → all ≡ []
-none_waits script [] e = refl
-none_waits script (first ∷ more) e = cc
+-- a task that was submitted is over where nothing waits
+pub over_at_rest : (script : Script) (k : Course) (client step : ℕ) (w : Word) → word_of k.tasks client step ≡ w → IsLawfulSoFar script k → k.waiting ≡ [] → is_vacant w ≡ false → is_over w ≡ true
+over_at_rest script k client step word.Vacant is h empty some = absurd (true≢false some)
+over_at_rest script k client step (word.Queued seen deadline) is h empty some =
+    let queued = subst (IsWordLawful script k.book.batches k.waiting client step (moment_at k.ats client step) (task_timeout_of (step_at script client step))) is (h.ended.words client step) in
+    absurd (true≢false (sym queued.waits ∙ ap (λ (all : List Waiting). list_any (is_entry_of client step) all) empty))
+over_at_rest script k client step (word.Taken seen batch) is h empty some =
+    absurd (subst (IsWordLawful script k.book.batches k.waiting client step (moment_at k.ats client step) (task_timeout_of (step_at script client step))) is (h.ended.words client step))
+over_at_rest script k client step (word.Ended code) is h empty some = refl
+over_at_rest script k client step (word.Timed reading) is h empty some = refl
 
-record IsStill (script : Script) (replay : Replay) (found : Option ℕ) : Type 0 where
-  none : found ≡ None
-  same : queue_turn script replay found ≡ replay
+over_told : (w : Word) → is_over w ≡ true → (batch : ℕ) × (batch_told w ≡ Some batch)
+over_told word.Vacant h = absurd (true≢false (sym h))
+over_told (word.Queued seen deadline) h = absurd (true≢false (sym h))
+over_told (word.Taken seen batch) h = absurd (true≢false (sym h))
+over_told (word.Ended code) h = (code.batch, refl)
+over_told (word.Timed reading) h = (0, refl)
 
-queue_rests : (script : Script) (replay : Replay) (found : Option ℕ) → (queue_turn script replay found).acted ≡ false → IsStill script replay found
-queue_rests script replay None still = record { none = refl; same = refl }
-queue_rests script replay (Some number) still = absurd (true≢false still)
+lt_true : (n m : ℕ) → n < m → nat_lt n m ≡ true
+lt_true n m less = grind (arith, nat_tests)
 
-client_ends : (script : Script) (replay : Replay) → IsScript script → IsBuilt script → IsSound script replay → replay.waiting ≡ []
-    → ((i : ℕ) → i < length script.clients → IsStuck script replay (0 + i)) → (client : ℕ) (found : Option (List Step)) → slice_get script.clients client ≡ found → HasEnded script replay client
-client_ends script replay valid built sound empty stuck client None e = ap (option_and_then (λ steps. slice_get steps (next_at replay.positions client))) e
-client_ends script replay valid built sound empty stuck client (Some steps) e =
-    let still = subst (IsStuck script replay) (omega arith) (stuck client (slice_get_within script.clients client steps e)) in
-    step_ends script replay client (step_at script client (next_at replay.positions client)) valid built sound empty refl still
+passed_true : (positions : List ℕ) (client step number : ℕ) → step < number → next_at positions client ≡ number → is_passed positions client step ≡ true
+passed_true positions client step number less e = subst (λ (n : ℕ). nat_lt step n ≡ true) (sym e) (lt_true step number less)
 
-round_rests : (script : Script) (replay : Replay) → IsScript script → IsBuilt script → IsSound script replay → (round_of script replay).acted ≡ false → IsAtRest script (round_of script replay)
-round_rests script replay valid built sound still =
-    let turned = client_turns script 0 script.clients (begun replay) in
-    let last = queue_rests script turned (next_queue script.queues turned.waiting) still in
-    let turns = turns_rest script 0 script.clients (begun replay) (ap (λ (r : Replay). r.acted) (sym last.same) ∙ still) in
-    let empty = none_waits script turned.waiting last.none in
-    let empty_before : (begun replay).waiting ≡ [] = ap (λ (r : Replay). r.waiting) (sym turns.same) ∙ empty in
-    subst (IsAtRest script) (sym last.same) (record {
+-- what a next step awaits was submitted
+pub passed_before : (script : Script) (k : Course) (client earlier : ℕ) → IsScript script → IsLawfulSoFar script k
+    → step_at script client (next_at k.positions client) ≡ Some (Await earlier goal.Task) → is_vacant (word_of k.tasks client earlier) ≡ false
+passed_before script k client earlier valid h e =
+    let named = awaits_submit script client (next_at k.positions client) earlier valid e in
+    let passed = passed_true k.positions client earlier (next_at k.positions client) named.0 refl in
+    not_true _ (h.performed.cells client earlier ∙ (λ i. passed i && named.1 i))
+
+-- a client that can't act is at its end
+await_acts : (script : Script) (s : Serial) (client earlier : ℕ) → IsScript script → IsLawfulSoFar script s.course → s.course.waiting ≡ []
+    → step_at script client (next_at s.course.positions client) ≡ Some (Await earlier goal.Task) → (batch : ℕ) × (batch_told (word_of s.course.tasks client earlier) ≡ Some batch)
+await_acts script s client earlier valid h empty e =
+    let k = s.course in
+    let there = passed_before script k client earlier valid h e in
+    over_told (word_of k.tasks client earlier) (over_at_rest script k client earlier (word_of k.tasks client earlier) refl h empty there)
+
+at_end : (script : Script) (s : Serial) (client : ℕ) (found : Option Step) → IsScript script → IsBuilt script → IsLawfulSoFar script s.course → s.course.waiting ≡ []
+    → next_step_of script s.course client ≡ found → option_map (λ k. after_step found (at_clock s.clock k)) (step_by s.course client s.clock found) ≡ None → found ≡ None
+at_end script s client None valid built h empty e none = refl
+at_end script s client (Some (Submit queue task timeout ack)) valid built h empty e none = absurd (no_some _ (sym none))
+at_end script s client (Some (Await earlier goal.Task)) valid built h empty e none =
+    let told = await_acts script s client earlier valid h empty e in
+    absurd (no_some _ (sym (ap (λ (b : Option ℕ). option_map (λ k. after_step (Some (Await earlier goal.Task)) (at_clock s.clock k)) (awaited_by s.course client b)) (sym told.1) ∙ none)))
+at_end script s client (Some (Await earlier goal.Ack)) valid built h empty e none = absurd (true≢false (sym (built_at script client (next_at s.course.positions client) (Await earlier goal.Ack) built e)))
+at_end script s client (Some (Await earlier goal.Watch)) valid built h empty e none = absurd (true≢false (sym (built_at script client (next_at s.course.positions client) (Await earlier goal.Watch) built e)))
+at_end script s client (Some (Watch a b c d)) valid built h empty e none = absurd (true≢false (sym (built_at script client (next_at s.course.positions client) (Watch a b c d) built e)))
+at_end script s client (Some (Next a b c d)) valid built h empty e none = absurd (true≢false (sym (built_at script client (next_at s.course.positions client) (Next a b c d) built e)))
+at_end script s client (Some (Read a b)) valid built h empty e none = absurd (true≢false (sym (built_at script client (next_at s.course.positions client) (Read a b) built e)))
+at_end script s client (Some (Sleep ms)) valid built h empty e none = absurd (no_some _ (sym none))
+at_end script s client (Some Close) valid built h empty e none = absurd (true≢false (sym (built_at script client (next_at s.course.positions client) Close built e)))
+
+-- of a client that there is, the turn is among those of a round
+same_sum : (n : ℕ) → n ≡ n + 0
+same_sum n = omega arith
+
+next_sum : (n m : ℕ) → n + 1 + m ≡ n + suc m
+next_sum n m = omega arith
+
+zero_sum : (n : ℕ) → 0 + n ≡ n
+zero_sum n = omega arith
+
+turn_there : (P : ScriptTurn → Type 0) (first client : ℕ) (clients : List (List Step)) (steps : List Step) → slice_get clients client ≡ Some steps → AllByRecursion P (client_turns first clients) → P (turn.Client (first + client))
+turn_there P first client [] steps e all = absurd (no_some steps e)
+turn_there P first zero (one ∷ more) steps e all = subst (λ (n : ℕ). P (turn.Client n)) (same_sum first) all.0
+turn_there P first (suc client) (one ∷ more) steps e all = subst (λ (n : ℕ). P (turn.Client n)) (next_sum first client) (turn_there P (first + 1) client more steps e all.1)
+
+rests_by : (script : Script) (s : Serial) (client : ℕ) (found : Option (List Step)) → slice_get script.clients client ≡ found → IsScript script → IsBuilt script → IsLawfulSoFar script s.course
+    → s.course.waiting ≡ [] → AllByRecursion (λ t. turn_of script t s ≡ None) (client_turns 0 script.clients) → next_step_of script s.course client ≡ None
+rests_by script s client None e valid built h empty all = ap (option_and_then (λ steps. slice_get steps (next_at s.course.positions client))) e
+rests_by script s client (Some steps) e valid built h empty all =
+    at_end script s client (next_step_of script s.course client) valid built h empty refl
+    (subst (λ (n : ℕ). turn_of script (turn.Client n) s ≡ None) (zero_sum client) (turn_there (λ t. turn_of script t s ≡ None) 0 client script.clients steps e all))
+
+pub is_at_rest : (script : Script) (s t : Serial) → IsScript script → IsBuilt script → IsOnTime script s → play script (round_turns script) (false, s) ≡ (false, t) → IsAtRest script t.course
+is_at_rest script s t valid built h e =
+    let none = none_act script (round_turns script) s (ap (λ (p : Bool × Serial). p.0) e) in
+    let turns = client_turns 0 script.clients in
+    let others = turn.Master ∷ map (λ (n : ScriptNode). turn.Node n.name) script.nodes in
+    let master = all_later (λ t. turn_of script t s ≡ None) turns others none in
+    let empty = none_next script s s.course.waiting (next_queue (priorities_of script.queues) s.course.waiting) refl refl master.0 in
+    let clients = all_first (λ t. turn_of script t s ≡ None) turns others none in
+    subst (λ (u : Serial). IsAtRest script u.course) (sym (round_still script s t valid h e)) (record {
       empty = empty;
-      ended = subst (λ (r : Replay). (client : ℕ) → HasEnded script r client) (sym turns.same)
-          (λ client. client_ends script (begun replay) valid built (begun_sound script replay sound) empty_before turns.stuck client (slice_get script.clients client) refl);
+      ended = λ client. rests_by script s client (slice_get script.clients client) refl valid built h.lawful empty clients;
     })
 
--- ---- the rounds
+-- ---- how many rounds are enough
 
-rests_if : (script : Script) (n : ℕ) (replay : Replay) (b : Bool) → (round_of script replay).acted ≡ b → IsScript script → IsBuilt script → IsSound script replay → load script replay < n + 1
-    → (load script (round_of script replay) < n → IsAtRest script (rounds script n (round_of script replay))) → IsAtRest script (if b then rounds script n (round_of script replay) else round_of script replay)
-rests_if script n replay true acted valid built sound less more = more (let fewer = less_left script replay (round_goes script replay valid sound) acted in omega arith)
-rests_if script n replay false acted valid built sound less more = round_rests script replay valid built sound acted
+-- rounds from here on, of which there are enough, end there
+pub record Ends (script : Script) (s end : Serial) : Type 0 where
+  pub rounds : ℕ
+  pub enough : load script s.course < rounds
+  pub there : rest script rounds s ≡ end
 
-rests_in : (script : Script) (n : ℕ) (replay : Replay) → IsScript script → IsBuilt script → IsSound script replay → load script replay < n → IsAtRest script (rounds script n replay)
-unfolding rounds
-rests_in script zero replay valid built sound less = absurd (omega arith)
-rests_in script (suc n) replay valid built sound less =
-    rests_if script n replay (round_of script replay).acted refl valid built sound (omega arith)
-    (rests_in script n (round_of script replay) valid built (round_sound script replay valid sound))
+pub ends_first : (script : Script) (s : Serial) → Ends script s (rest script (load script s.course + 1) s)
+ends_first script s = record { rounds = load script s.course + 1; enough = omega arith; there = refl }
 
-pub all_left : (clients : List (List Step)) → steps_left clients (map (λ steps. 0) clients) ≡ length (flat_map (λ steps. steps) clients)
-unfolding steps_left
-all_left [] = refl
-all_left (steps ∷ more) = let rest = all_left more in let both = length-append steps (flat_map (λ (steps : List Step). steps) more) in omega arith
+going : (script : Script) (s t end : Serial) (rounds : ℕ) → load script s.course < rounds → rest script rounds s ≡ end → go_on script s ≡ Some t → load script t.course < load script s.course → Ends script t end
+unfolding rest
+going script s t end zero enough there e less = absurd (omega arith)
+going script s t end (suc more) enough there e less = record {
+  rounds = more;
+  enough = omega arith;
+  there = sym (ap (λ (o : Option Serial). unwrap_or (option_map (rest script more) o) s) e) ∙ there;
+}
 
-pub comes_to_rest : (script : Script) → IsScript script → IsBuilt script → IsAtRest script (performed script)
-unfolding load
-comes_to_rest script valid built =
-    let left = all_left script.clients in rests_in script (most_rounds script) (first_replay script) valid built (first_sound script) (omega arith)
+pub ends_on : (script : Script) (s t end : Serial) → IsScript script → IsOnTime script s → play script (round_turns script) (false, s) ≡ (true, t) → Ends script s end → Ends script t end
+ends_on script s t end valid h e ends = going script s t end ends.rounds ends.enough ends.there (ap if_acted e) (round_less script s t valid h e)
 
--- ---- what every round keeps
+stopping : (script : Script) (s t end : Serial) (rounds : ℕ) → load script s.course < rounds → rest script rounds s ≡ end → go_on script s ≡ None → s ≡ end
+unfolding rest
+stopping script s t end zero enough there e = absurd (omega arith)
+stopping script s t end (suc more) enough there e = sym (ap (λ (o : Option Serial). unwrap_or (option_map (rest script more) o) s) e) ∙ there
 
-pub rounds_keep : (script : Script) (P : Replay → Type 0) (n : ℕ) (replay : Replay) → IsScript script → ((r : Replay) → IsSound script r → P r → P (round_of script r))
-    → IsSound script replay → P replay → P (rounds script n replay)
-unfolding rounds
-rounds_keep script P zero replay valid keeps sound h = h
-rounds_keep script P (suc n) replay valid keeps sound h =
-    let next = keeps replay sound h in
-    either P (round_of script replay).acted (rounds script n (round_of script replay)) (round_of script replay)
-    (rounds_keep script P n (round_of script replay) valid keeps (round_sound script replay valid sound) next) next
+pub ends_here : (script : Script) (s t end : Serial) → IsScript script → IsOnTime script s → play script (round_turns script) (false, s) ≡ (false, t) → Ends script s end → t ≡ end
+ends_here script s t end valid h e ends = round_still script s t valid h e ∙ stopping script s t end ends.rounds ends.enough ends.there (ap if_acted e)
 
-performed_sound : (script : Script) → IsScript script → IsSound script (performed script)
-performed_sound script valid =
-    let first = first_sound script in
-    rounds_keep script (IsSound script) (most_rounds script) (first_replay script) valid (λ r sound h. round_sound script r valid sound) first first
+-- ---- a round, as it is played
 
--- so that the session is one of a kept book
-pub is_serial : (script : Script) → IsScript script → IsSerialSession script (replayed script)
-unfolding replayed
-is_serial script valid =
-    let kept = (performed_sound script valid).kept in
-    record {
-      serial = kept.serial;
-      versions = versions_are_in_order script (performed script).book.batches kept.serial;
-      once = tasks_stand_once script (performed script).book.batches kept.serial;
-      last = ap (λ (w : World). w.state) kept.world;
-    }
+play_both : (script : Script) (xs ys : List ScriptTurn) (before : Bool × Serial) → play script (xs ++ ys) before ≡ play script ys (play script xs before)
+play_both script [] ys before = refl
+play_both script (x ∷ xs) ys before = play_both script xs ys (turned script before x)
 
--- ---- a round more, or the last one
+play_nodes : (script : Script) (nodes : List ScriptNode) (before : Bool × Serial) → play script (map (λ (n : ScriptNode). turn.Node n.name) nodes) before ≡ before
+play_nodes script [] before = refl
+play_nodes script (node ∷ nodes) before = play_nodes script nodes before
 
-pub round_acts : (script : Script) (left : ℕ) (replay now made : Replay) → now ≡ round_of script replay → now.acted ≡ true → 0 < left → rounds script left replay ≡ made
-    → rounds script (left - 1) now ≡ made
-unfolding rounds
-round_acts script zero replay now made e acted some all = absurd (omega arith)
-round_acts script (suc n) replay now made e acted some all =
-    let same : suc n - 1 ≡ n = omega arith in
-    let acts : (round_of script replay).acted ≡ true = ap (λ (r : Replay). r.acted) (sym e) ∙ acted in
-    (λ i. rounds script (same i) (e i)) ∙ sym (ap (λ (b : Bool). if b then rounds script n (round_of script replay) else round_of script replay) acts) ∙ all
+either_acts : (acted b : Bool) (s t : Serial) (o : Option Serial) → after_turn (false, s) o ≡ (b, t) → after_turn (acted, s) o ≡ ((if b then true else acted), t)
+either_acts acted b s t None e =
+    (λ i. ((if (ap (λ (p : Bool × Serial). p.0) e i) then true else acted), ap (λ (p : Bool × Serial). p.1) e i))
+either_acts acted b s t (Some u) e =
+    (λ i. ((if (ap (λ (p : Bool × Serial). p.0) e i) then true else acted), ap (λ (p : Bool × Serial). p.1) e i))
 
-pub round_ends : (script : Script) (left : ℕ) (replay now made : Replay) → now ≡ round_of script replay → now.acted ≡ false → 0 < left → rounds script left replay ≡ made → now ≡ made
-unfolding rounds
-round_ends script zero replay now made e acted some all = absurd (omega arith)
-round_ends script (suc n) replay now made e acted some all =
-    let acts : (round_of script replay).acted ≡ false = ap (λ (r : Replay). r.acted) (sym e) ∙ acted in
-    e ∙ sym (ap (λ (b : Bool). if b then rounds script n (round_of script replay) else round_of script replay) acts) ∙ all
+none_dropped : {A : Type 0} (xs : List A) (n : ℕ) → length xs ≤ n → drop n xs ≡ []
+none_dropped [] zero over = refl
+none_dropped [] (suc n) over = refl
+none_dropped (x ∷ xs) zero over = absurd (omega arith)
+none_dropped (x ∷ xs) (suc n) over = none_dropped xs n (omega arith)
 
-pub no_round_left : (script : Script) (left : ℕ) (replay made : Replay) → left ≤ 0 → rounds script left replay ≡ made → replay ≡ made
-unfolding rounds
-no_round_left script zero replay made none all = all
-no_round_left script (suc n) replay made none all = absurd (omega arith)
+pub round_played : (script : Script) (first s t : Serial) (place client : ℕ) (acted b : Bool) → length script.clients ≤ place
+    → play script (client_turns client (drop place script.clients)) (acted, s) ≡ play script (client_turns 0 script.clients) (false, first) → after_turn (false, s) (master_turn script s) ≡ (b, t)
+    → play script (round_turns script) (false, first) ≡ ((if b then true else acted), t)
+round_played script first s t place client acted b over leads e =
+    let nodes = map (λ (n : ScriptNode). turn.Node n.name) script.nodes in
+    let clients : (acted, s) ≡ play script (client_turns 0 script.clients) (false, first) =
+    ap (λ (l : List (List Step)). play script (client_turns client l) (acted, s)) (sym (none_dropped script.clients place over)) ∙ leads in
+    play_both script (client_turns 0 script.clients) (turn.Master ∷ nodes) (false, first)
+    ∙ ap (play script (turn.Master ∷ nodes)) (sym clients)
+    ∙ play_nodes script script.nodes (after_turn (acted, s) (master_turn script s))
+    ∙ either_acts acted b s t (master_turn script s) e
+
+pub round_acted : (script : Script) (first s t : Serial) (place client : ℕ) (acted b : Bool) → length script.clients ≤ place
+    → play script (client_turns client (drop place script.clients)) (acted, s) ≡ play script (client_turns 0 script.clients) (false, first) → after_turn (false, s) (master_turn script s) ≡ (b, t) → b ≡ true
+    → play script (round_turns script) (false, first) ≡ (true, t)
+round_acted script first s t place client acted b over leads e acts =
+    round_played script first s t place client acted b over leads e ∙ (λ i. ((if (acts i) then true else acted), t))
+
+pub round_still_so : (script : Script) (first s t : Serial) (place client : ℕ) (acted b : Bool) → length script.clients ≤ place
+    → play script (client_turns client (drop place script.clients)) (acted, s) ≡ play script (client_turns 0 script.clients) (false, first) → after_turn (false, s) (master_turn script s) ≡ (b, t) → b ≡ false
+    → play script (round_turns script) (false, first) ≡ (acted, t)
+round_still_so script first s t place client acted b over leads e none =
+    round_played script first s t place client acted b over leads e ∙ (λ i. ((if (none i) then true else acted), t))
+
+-- what a round answers
+pub round_ended : (script : Script) (before now end : Serial) (b : Bool) → IsScript script → IsOnTime script before → play script (round_turns script) (false, before) ≡ (b, now) → b ≡ false
+    → Ends script before end → now ≡ end
+round_ended script before now end true valid h e none ends = absurd (true≢false none)
+round_ended script before now end false valid h e none ends = ends_here script before now end valid h e ends
+
+pub round_smaller : (script : Script) (before now : Serial) (b : Bool) → IsScript script → IsOnTime script before → play script (round_turns script) (false, before) ≡ (b, now) → b ≡ true
+    → load script now.course < load script before.course
+round_smaller script before now true valid h e some = round_less script before now valid h e
+round_smaller script before now false valid h e some = absurd (true≢false (sym some))
+
+pub round_on : (script : Script) (before now end : Serial) (b : Bool) → IsScript script → IsOnTime script before → play script (round_turns script) (false, before) ≡ (b, now) → b ≡ true
+    → Ends script before end → Ends script now end
+round_on script before now end true valid h e some ends = ends_on script before now end valid h e ends
+round_on script before now end false valid h e some ends = absurd (true≢false (sym some))

@@ -16,7 +16,8 @@ use Rattle.scripts.specs.Built.{IsBuilt, is_built_step}
 use Rattle.executors.specs.Kinds.{accepts}
 use Rattle.scripts.proofs.Takes.{accepts_task_for}
 use Rattle.scripts.specs.Scripts.{IsScript}
-use Rattle.scripts.specs.ValidSteps.{are_steps, is_client, is_queue_for, is_step}
+use Rattle.scripts.specs.ValidSteps.{are_steps, is_client, is_if_some, is_positive_time, is_queue_for, is_step}
+use Rattle.session_law.specs.Endings.{task_timeout_of}
 use Rattle.session_law.specs.declared.batches.Entry.{Entry}
 use Rattle.session_law.specs.Histories.{IsOrdered, IsOwn, is_named, is_own_step, kind_named, queued_of, step_at, submitted, task_at, tasks_at}
 use Rattle.master_run.specs.Books.{CanJoin, Chronicle, placed_in}
@@ -66,9 +67,36 @@ pub some_queue : (script : Script) (task : Task) (found : Option QueueSpec) → 
 some_queue script task None h = absurd (true≢false (sym h))
 some_queue script task (Some queue) h = (queue, refl)
 
+-- a task that may not wait for ever may wait for a while
+step_timeout : (script : Script) (before : List Step) (step : Step) → is_step script.nodes script.queues before step ≡ true → is_if_some is_positive_time (task_timeout_of (Some step)) ≡ true
+step_timeout script before (Submit at task timeout ack) h = both_first _ _ (both_second _ _ h)
+step_timeout script before (Await _ _) h = refl
+step_timeout script before (Watch _ _ _ _) h = refl
+step_timeout script before (Next _ _ _ _) h = refl
+step_timeout script before (Read _ _) h = refl
+step_timeout script before (Sleep _) h = refl
+step_timeout script before Close h = refl
+
+steps_timeout : (script : Script) (before steps : List Step) (number : ℕ) (step : Step) → are_steps script.nodes script.queues before steps ≡ true → slice_get steps number ≡ Some step
+    → is_if_some is_positive_time (task_timeout_of (Some step)) ≡ true
+steps_timeout script before [] number step h e = absurd (no_some step e)
+steps_timeout script before (first ∷ steps) zero step h e =
+    ap (λ s. is_if_some is_positive_time (task_timeout_of (Some s))) (sym (some_same first step e)) ∙ step_timeout script before first (both_first _ _ h)
+steps_timeout script before (first ∷ steps) (suc n) step h e = steps_timeout script (before ++ first ∷ []) steps n step (both_second _ _ h) e
+
+timeout_found : (script : Script) (client number : ℕ) (found : Option Step) → IsScript script → step_at script client number ≡ found → is_if_some is_positive_time (task_timeout_of found) ≡ true
+timeout_found script client number None valid e = refl
+timeout_found script client number (Some step) valid e =
+    let at = stood script client number step e in
+    let steps = all_get (is_client script.nodes script.queues) script.clients client at.steps valid.clients at.of_client in
+    steps_timeout script [] at.steps number step (both_second _ _ steps) at.of_steps
+
+pub timeouts_so : (script : Script) (client number : ℕ) → IsScript script → is_if_some is_positive_time (task_timeout_of (step_at script client number)) ≡ true
+timeouts_so script client number valid = timeout_found script client number (step_at script client number) valid refl
+
 -- what is built says of each step
 pub steps_built : (script : Script) → IsBuilt script → list_all (list_all is_built_step) script.clients ≡ true
-steps_built script built = both_first _ _ (both_second _ _ built)
+steps_built script built = both_first _ _ built
 
 -- and it says that no node fails
 none_there : (faults : List Fault) → (length faults == 0) ≡ true → faults ≡ []
@@ -76,7 +104,7 @@ none_there [] e = refl
 none_there (fault ∷ faults) e = absurd (let none = (unsigned_Decides (length (fault ∷ faults)) 0).0 e in omega arith)
 
 pub faults_built : (script : Script) → IsBuilt script → script.faults ≡ []
-faults_built script built = none_there script.faults (both_first _ _ (both_second _ _ (both_second _ _ built)))
+faults_built script built = none_there script.faults (both_second _ _ built)
 
 pub built_at : (script : Script) (client number : ℕ) (step : Step) → IsBuilt script → step_at script client number ≡ Some step → is_built_step step ≡ true
 built_at script client number step built e =

@@ -31,6 +31,12 @@ first_book script = record { batches = []; ends = []; world = first_world script
 abbrev pub IsKeptBook : Script → Chronicle → Type 0
 IsKeptBook script book = IsKept script book.batches book.world
 
+-- the entries of the last batch
+abbrev pub last_entries : List Batch → List Entry
+last_entries [] = []
+last_entries (batch ∷ []) = batch.entries
+last_entries (batch ∷ next ∷ more) = last_entries (next ∷ more)
+
 -- ---- one batch more
 
 -- entries with the name of their queue
@@ -71,13 +77,13 @@ noted book queue entries at step = record {
   world = step.1;
 }
 
-abbrev pub added_to : Script → Chronicle → Option QueueSpec → List Entry → ℕ → Chronicle
-added_to script book None entries at = book
-added_to script book (Some queue) entries at = noted book queue entries at (ran_at script book.world queue entries at)
+abbrev pub added_to : Script → Chronicle → Option QueueSpec → List Entry → ℕ → ℕ → Chronicle
+added_to script book None entries at commit = book
+added_to script book (Some queue) entries at commit = noted book queue entries at (ran_at script book.world queue entries commit)
 
--- the book with one batch more, of a queue by its number, that commits at the moment at which it was taken
-abbrev pub added : Script → Chronicle → ℕ → List Entry → ℕ → Chronicle
-added script book number entries at = added_to script book (slice_get script.queues number) entries at
+-- the book with one batch more, of a queue by its number, that was taken at a moment and commits at another, if at all
+abbrev pub added : Script → Chronicle → ℕ → List Entry → ℕ → ℕ → Chronicle
+added script book number entries at commit = added_to script book (slice_get script.queues number) entries at commit
 
 -- ---- over links
 

@@ -1,5 +1,9 @@
 pub mod Books
 pub mod Conclusions
+pub mod Courses
+pub mod Endings
+pub mod Events
+pub mod Laws
 pub mod Ledgers
 pub mod Linked
 pub mod MemoryLinks
@@ -10,9 +14,10 @@ pub mod Rests
 pub mod Rooms
 pub mod Sendings
 pub mod SerialSessions
-pub mod Singles
-pub mod Soundness
-pub mod Tellings
+pub mod Serials
+pub mod Servings
+pub mod Sessions
+pub mod SoFar
+pub mod Steps
+pub mod StepsLeft
 pub mod Touching
-pub mod Turns
-pub mod Waitings

@@ -1,51 +1,105 @@
--- The serial rule so far, and the session that it makes of a script: rounds of turns, until one in which no turn acts.
--- The rule is this project's own.
-use Rattle.std.specs.Prelude.{ℕ, zero, suc, ◌+◌, ◌*◌, false, List, [], ◌∷◌, length, if◌then◌else◌}
+-- How far a replay has come, as the serial rule sees it; and what its code asks and keeps.
+use Rattle.std.specs.Prelude.{◌≡◌, ◌≢◌, ◌<◌, ◌≤◌, ◌-◌, ◌^◌, ℕ, true, List, [], length, Option}
+use Rattle.std.specs.List.{AllByRecursion}
+use Rattle.std.specs.Option.{option_map}
+use Rattle.publication.specs.LinkMeanings.{LinkMeaning}
 use Rattle.scripts.specs.declared.whole_script.Script.{Script}
-use Rattle.scripts.specs.declared.steps.Step.{Step}
-use Rattle.scripts.specs.Scripts.{all_steps}
-use Rattle.session_law.specs.declared.sessions.Session.{Session}
+use Rattle.executors.specs.declared.tasks.Task.{Task}
+use Rattle.session_law.specs.DueTimes.{due}
+use Rattle.task_words.specs.declared.words.Word.TheVariants as word
+use Rattle.task_words.specs.Cells.{IsInside}
+use Rattle.task_words.specs.Words.{IsWithin, size_of}
+use Rattle.master_intake.specs.Waitings.{priorities_of}
 use Rattle.master_run.specs.declared.replays.Replay.{Replay}
-use Rattle.master_run.specs.Tellings.{replies_of}
-use Rattle.master_run.specs.Turns.{client_turn, first_replay, master_turn}
+use Rattle.master_run.specs.Courses.{Course, id_at, next_at, word_of}
+use Rattle.master_run.specs.Events.{CanExpire, all_expired}
+use Rattle.master_run.specs.Sendings.{AreLinksOf, HaveRoom}
+use Rattle.master_run.specs.Serials.{Serial, at_clock}
+use Rattle.master_run.specs.SoFar.{IsLawfulSoFar}
+use Rattle.master_run.specs.Steps.{awaited_by, batch_told, moved_on, submitted_by}
 
--- no turn of the round has acted yet
-abbrev pub begun : Replay → Replay
-begun replay = record replay { acted = false }
-
--- a turn for each client, from one on
-abbrev pub client_turns : Script → ℕ → List (List Step) → Replay → Replay
-client_turns script client [] replay = replay
-client_turns script client (steps ∷ more) replay = client_turns script (client + 1) more (client_turn script client replay)
-
--- one round: a turn for each client in order, and one for the master
-abbrev pub round_of : Script → Replay → Replay
-round_of script replay = master_turn script (client_turns script 0 script.clients (begun replay))
-
--- at most so many rounds; they end with the one in which no turn acts
-unfoldable pub rounds : Script → ℕ → Replay → Replay
-rounds script zero replay = replay
-rounds script (suc more) replay = if (round_of script replay).acted then rounds script more (round_of script replay) else round_of script replay
-
--- every round but the last performs a step or takes an entry, so these are always enough
-abbrev pub most_rounds : Script → ℕ
-most_rounds script = 2 * length (all_steps script) + 1
-
--- where a script has been performed
-abbrev pub performed : Script → Replay
-performed script = rounds script (most_rounds script) (first_replay script)
-
-abbrev pub session_of : Replay → Session
-session_of replay = record {
-  batches = replay.book.batches;
-  replies = replies_of replay.told;
-  acks = [];
-  watches = [];
-  reads = [];
-  nodes = [];
-  last = replay.book.world.state;
+abbrev pub course_of : Replay → Course
+course_of replay = record {
+  book = replay.book;
+  waiting = replay.waiting.waiting;
+  tasks = replay.tasks;
+  ats = replay.ats;
+  positions = replay.positions;
+  awaited = replay.awaited;
 }
 
--- the one session that the serial rule makes of a script
-unfoldable pub replayed : Script → Session
-replayed script = session_of (performed script)
+abbrev pub serial_of : Replay → Serial
+serial_of replay = record { course = course_of replay; clock = replay.clock }
+
+-- a replay is at a lawful beginning of a session
+pub record IsSound (script : Script) (replay : Replay) : Type 0 where
+  pub lawful : IsLawfulSoFar script (course_of replay)
+  pub priorities : replay.waiting.priorities ≡ priorities_of script.queues
+  pub clock : replay.clock ≤ 2 ^ 43 - 2
+
+-- ---- the steps of a client
+
+-- there is such a client, with a step left
+pub record CanStep (replay : Replay) (client : ℕ) : Type 0 where
+  pub there : client < length replay.positions
+  pub few : next_at replay.positions client < 4096
+
+-- the client is at its next step
+abbrev pub moved_in : Replay → ℕ → Replay
+moved_in replay client = record replay { positions = moved_on replay.positions client }
+
+-- it may submit a task to a queue
+pub record CanSubmit (replay : Replay) (client queue : ℕ) : Type 0 where
+  pub steps : CanStep replay client
+  pub lane : client < length replay.tasks.words
+  pub vacant : word_of replay.tasks client (next_at replay.positions client) ≡ word.Vacant
+  pub known : queue < length replay.waiting.priorities
+  pub told : queue < length replay.tasks.sizes
+  pub room : size_of replay.tasks queue < 2 ^ 32 - 1
+  pub moment : IsInside replay.ats client (next_at replay.positions client)
+
+abbrev pub with_course : Replay → Course → Replay
+with_course replay k = record replay {
+  book = k.book;
+  waiting = record replay.waiting { waiting = k.waiting };
+  tasks = k.tasks;
+  ats = k.ats;
+  positions = k.positions;
+  awaited = k.awaited;
+}
+
+abbrev pub submitted_in : Replay → ℕ → ℕ → Task → Option ℕ → Replay
+submitted_in replay client queue task timeout = with_course replay (submitted_by (course_of replay) client replay.clock queue task timeout)
+
+-- it may ask how far the task of an earlier step is
+pub record CanAwait (replay : Replay) (client earlier : ℕ) : Type 0 where
+  pub steps : CanStep replay client
+  pub place : client < length replay.awaited
+  pub lane : client < length replay.tasks.words
+  pub within : IsWithin replay.tasks (id_at client earlier)
+  pub submitted : word_of replay.tasks client earlier ≢ word.Vacant
+
+abbrev pub awaited_in : Replay → ℕ → ℕ → Option Serial
+awaited_in replay client earlier = option_map (at_clock replay.clock) (awaited_by (course_of replay) client (batch_told (word_of replay.tasks client earlier)))
+
+-- it may sleep
+pub record CanSleep (replay : Replay) (client ms : ℕ) : Type 0 where
+  pub steps : CanStep replay client
+  pub expire : CanExpire (due replay.clock ms) replay.waiting.waiting replay.tasks
+
+abbrev pub slept_in : Replay → ℕ → ℕ → Replay
+slept_in replay client ms = record replay {
+  tasks = all_expired (due replay.clock ms) replay.waiting.waiting replay.tasks;
+  positions = moved_on replay.positions client;
+  clock = due replay.clock ms;
+}
+
+-- ---- a batch
+
+-- over its links, of which none fails, a batch is the one that the script asks for
+pub record IsOverLinks (script : Script) (replay : Replay) (links : List LinkMeaning) : Type 0 where
+  pub of : AreLinksOf script.nodes replay.book.world links
+  pub sure : AllByRecursion (λ l. l.reliable ≡ true) links
+  pub room : HaveRoom links
+  pub faults : script.faults ≡ []
+  pub clock : replay.clock ≤ 2 ^ 43 - 2

@@ -2,7 +2,7 @@ ghost use Rattle.std.specs.Prelude.{◌≡◌, ◌<◌, ◌^◌, ◌++◌, [], �
 ghost use Rattle.scripts.specs.Scripts.{IsScript};
 ghost use Rattle.session_law.specs.BatchSteps.{batch_step};
 ghost use Rattle.session_law.specs.Histories.{IsOrdered, tasks_at};
-ghost use Rattle.master_run.specs.Books.{CanJoin, CanJoinAt, IsAdded, IsKeptBook, first_book, input_at, noted, plan_for};
+ghost use Rattle.master_run.specs.Books.{CanJoin, CanJoinAt, IsAdded, IsKeptBook, first_book, input_at, last_entries, noted, plan_for};
 ghost use Rattle.master_run.specs.Reaches.{IsReached, cut_off};
 ghost use Rattle.master_run.specs.Sendings.{AreLinksOf, HaveRoom, IsDecided};
 
@@ -138,6 +138,16 @@ impl Book {
         ensures { result.now ≡ self.now.ends }
     {
         self.ends.as_slice()
+    }
+
+    /// The entries of the last batch; none where there is none.
+    pub(crate) fn last_entries(&self) -> &[Entry]
+        ensures { result.now ≡ last_entries self.now.batches }
+    {
+        match self.batches.as_slice().last() {
+            None => &[],
+            Some(batch) => batch.entries.as_slice(),
+        }
     }
 
     /// The world after the batches.

@@ -4,16 +4,20 @@
 
 mod books;
 mod conclusions;
+mod endings;
 mod first_worlds;
+mod laws;
 mod memory_links;
+mod moments;
 mod plans;
 mod replays;
+mod replies;
 mod sendings;
 mod serial_core;
-mod tellings;
-mod waitings;
+mod servings;
 
 pub use books::{Book, BookEnd};
+pub use laws::{events_keep_lawful, rest_is_lawful};
 pub use plans::{Plan, Planned, Proposal};
 pub use sendings::Sent;
 pub use serial_core::SerialCore;

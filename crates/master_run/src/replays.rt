@@ -1,67 +1,96 @@
-ghost use Rattle.std.specs.Prelude.{◌≡◌, ◌<◌, IfOk, List, OnOk, length, map, slice_index_or};
+ghost use Rattle.std.specs.Prelude.{◌≡◌, false, IfOk, List, OnOk, map, slice_index_or};
 ghost use Rattle.std.specs.Option.{option_copied};
 ghost use Rattle.scripts.specs.Scripts.{IsScript};
 ghost use Rattle.session_law.specs.Histories.{IsOrdered, step_at};
 ghost use Rattle.publication.specs.LinkMeanings.{LinkMeaning};
 ghost use Rattle.master_run.specs.Books.{CanJoinAt, added};
+ghost use Rattle.master_run.specs.Courses.{lanes_of, next_at, zeros_of};
 ghost use Rattle.master_run.specs.Linked.{AreUsed, IsLinked};
-ghost use Rattle.master_run.specs.Sendings.{AreLinksOf, HaveRoom};
-ghost use Rattle.master_run.specs.Replays.{round_of, session_of};
-ghost use Rattle.master_run.specs.Soundness.{IsSound};
-ghost use Rattle.master_run.specs.Tellings.{batch_told};
-ghost use Rattle.master_run.specs.Turns.{awaited_by, client_turn, first_replay, master_turn, next_at, stepped_on, submitted_to};
+ghost use Rattle.master_run.specs.Sendings.{AreLinksOf};
+ghost use Rattle.master_run.specs.Serials.{after_turn, client_turn, first_serial, follow, master_turn, play, round_turns, turn_of};
+ghost use Rattle.master_run.specs.Sessions.{session_of};
+ghost use Rattle.master_run.specs.Replays.{CanAwait, CanSleep, CanStep, CanSubmit, IsOverLinks, IsSound, awaited_in, course_of, moved_in, serial_of, slept_in, submitted_in};
 
 use crate::books::{Book, BookEnd};
-use crate::tellings::Told;
-use crate::waitings::{Parted, Waiting, entries_of, next_queue, part};
+use crate::endings::{deadline_of, due};
+use crate::moments::Moments;
+use crate::replies::collect;
+use crate::servings::{end_all, expire_all, gather};
 use edge_io::Frozen;
+use executors::Task;
+use master_intake::{Submission, Taken, WaitList};
 use plain_data::{Items, OutOfMemory};
 use publication::Link;
-use scripts::{Goal, Script, Step};
+use scripts::{Goal, Script, ScriptTurn, Step, TaskId};
 use session_law::{Entry, Session, World};
 use std::alloc::Global;
+use task_words::{PlainTasks, TaskPoll};
 
 /// How far a replay of a script has come.
 #[derive(Drop)]
 pub(crate) struct Replay {
+    book: Book,
+    waiting: WaitList,
+    tasks: PlainTasks,
+    ats: Moments,
+
     /// The number of each client's next step.
     positions: Items<u32>,
 
     /// For each client the greatest number of a batch that holds a task whose end it has awaited; 0 if none.
     awaited: Items<u32>,
 
-    /// The tasks that were submitted and not taken yet, in the order of submission.
-    waiting: Items<Waiting>,
-    book: Book,
-
-    /// What the clients were told.
-    told: Told,
-
     /// The clock, in milliseconds.
     clock: u64,
-
-    /// Whether a turn of this round has acted.
-    acted: bool,
 }
 
 impl Replay {
     /// The replay of a script before its first turn.
     pub(crate) fn first(alloc: Global, script: &Script) -> Result<Replay, OutOfMemory>
-        ensures first { IfOk result (λ made. made ≡ first_replay script.now) }
+        requires { IsScript script.now }
+        ensures first { IfOk result (λ made. serial_of made ≡ first_serial script.now) }
         ensures sound { IfOk result (IsSound script.now) }
     {
+        let lanes = lanes_of(alloc, script)?;
+        let positions = zeros(alloc, script)?;
+        let awaited = zeros(alloc, script)?;
+        let ats = Moments::create(alloc, lanes.as_slice())?;
+        let tasks = PlainTasks::create(alloc, lanes.as_slice(), script.queues.len() as u32)?;
+        let waiting = WaitList::create(alloc, script.queues.as_slice())?;
+        let book = Book::first(alloc, script)?;
         Ok(Replay {
-            positions: zeros(alloc, script)?,
-            awaited: zeros(alloc, script)?,
-            waiting: Items::new(alloc),
-            book: Book::first(alloc, script)?,
-            told: Told::new(alloc),
+            book,
+            waiting,
+            tasks,
+            ats,
+            positions,
+            awaited,
             clock: 0,
-            acted: false,
         })
     }
 
-    /// One round: a turn for each client in order, and one for the master. It answers whether a turn acted.
+    /// The turns of the script's schedule.
+    pub(crate) fn follow<L: Link>(
+        &mut self,
+        alloc: Global,
+        script: &Script,
+        links: &mut [L],
+    ) -> Result<(), OutOfMemory>
+        requires script { IsScript script.now }
+        requires sound { IsSound script.now self.old }
+        requires linked { IsLinked script.now (course_of self.old) (map L.meaning links.old) }
+        ensures turns { OnOk result (serial_of self.new ≡ follow script.now script.now.schedule (serial_of self.old)) }
+        ensures sound { OnOk result (IsSound script.now self.new) }
+        ensures linked { OnOk result (IsLinked script.now (course_of self.new) (map L.meaning links.new)) }
+    {
+        for turn in script.schedule.as_slice() {
+            let _acted = self.turn(alloc, script, links, turn)?;
+        }
+        Ok(())
+    }
+
+    /// One round: a turn for each client in order, one for the master, and one for each node, which has nothing to do. It
+    /// answers whether a turn acted.
     pub(crate) fn round<L: Link>(
         &mut self,
         alloc: Global,
@@ -70,53 +99,100 @@ impl Replay {
     ) -> Result<bool, OutOfMemory>
         requires script { IsScript script.now }
         requires sound { IsSound script.now self.old }
-        requires linked { IsLinked script.now self.old (map L.meaning links.old) }
-        ensures round { OnOk result (self.new ≡ round_of script.now self.old) }
-        ensures acted { IfOk result (λ acted. acted ≡ self.new.acted) }
+        requires linked { IsLinked script.now (course_of self.old) (map L.meaning links.old) }
+        ensures round { IfOk result (λ acted. play script.now (round_turns script.now) (false, serial_of self.old) ≡ (acted, serial_of self.new)) }
         ensures sound { OnOk result (IsSound script.now self.new) }
-        ensures linked { OnOk result (IsLinked script.now self.new (map L.meaning links.new)) }
+        ensures linked { OnOk result (IsLinked script.now (course_of self.new) (map L.meaning links.new)) }
     {
-        self.acted = false;
+        let mut acted = false;
         let mut client: u32 = 0;
         for _steps in script.clients.as_slice() {
-            self.client_turn(script, client)?;
+            if self.client_turn(alloc, script, client)? {
+                acted = true;
+            }
             client += 1;
         }
-        self.master_turn(alloc, script, links)?;
-        Ok(self.acted)
+        if self.master_turn(alloc, script, links)? {
+            acted = true;
+        }
+        Ok(acted)
     }
+
+    /// A turn: it answers whether it acted.
+    fn turn<L: Link>(
+        &mut self,
+        alloc: Global,
+        script: &Script,
+        links: &mut [L],
+        turn: &ScriptTurn,
+    ) -> Result<bool, OutOfMemory>
+        requires script { IsScript script.now }
+        requires sound { IsSound script.now self.old }
+        requires linked { IsLinked script.now (course_of self.old) (map L.meaning links.old) }
+        ensures turn { IfOk result (λ acted. after_turn (false, serial_of self.old) (turn_of script.now turn.now (serial_of self.old)) ≡ (acted, serial_of self.new)) }
+        ensures sound { OnOk result (IsSound script.now self.new) }
+        ensures linked { OnOk result (IsLinked script.now (course_of self.new) (map L.meaning links.new)) }
+    {
+        match turn {
+            ScriptTurn::Client(client) => self.client_turn(alloc, script, *client),
+            ScriptTurn::Master => self.master_turn(alloc, script, links),
+            ScriptTurn::Node(_) => Ok(false),
+        }
+    }
+
+    // ---- a client
 
     /// A client's turn.
-    #[tactic(auto, using(crate::proofs::Submitting::turned_by_client, crate::proofs::Linking::linked_by_client))]
-    fn client_turn(&mut self, script: &Script, client: u32) -> Result<(), OutOfMemory>
+    fn client_turn(
+        &mut self,
+        alloc: Global,
+        script: &Script,
+        client: u32,
+    ) -> Result<bool, OutOfMemory>
         requires script { IsScript script.now }
         requires sound { IsSound script.now self.old }
-        ensures turn { OnOk result (self.new ≡ client_turn script.now client self.old) }
+        ensures turn { IfOk result (λ acted. after_turn (false, serial_of self.old) (client_turn script.now client (serial_of self.old)) ≡ (acted, serial_of self.new)) }
         ensures sound { OnOk result (IsSound script.now self.new) }
-        ensures linked { OnOk result ((links : List LinkMeaning) → IsLinked script.now self.old links → IsLinked script.now self.new links) }
+        ensures linked { OnOk result ((links : List LinkMeaning) → IsLinked script.now (course_of self.old) links → IsLinked script.now (course_of self.new) links) }
     {
-        self.perform_next(script, client)
+        self.perform_next(alloc, script, client)
     }
 
-    /// A client performs its next step. At its end it does nothing, nor does it at a step that isn't performed yet.
-    #[tactic(auto, using(crate::proofs::Submitting::position_few, crate::proofs::Submitting::place_within))]
-    fn perform_next(&mut self, script: &Script, client: u32) -> Result<(), OutOfMemory>
+    /// A client performs its next step, where that can act; it answers whether it did.
+    fn perform_next(
+        &mut self,
+        alloc: Global,
+        script: &Script,
+        client: u32,
+    ) -> Result<bool, OutOfMemory>
         requires script { IsScript script.now }
         requires sound { IsSound script.now self.old }
-        ensures { OnOk result (self.new ≡ client_turn script.now client self.old) }
+        ensures turn { IfOk result (λ acted. after_turn (false, serial_of self.old) (client_turn script.now client (serial_of self.old)) ≡ (acted, serial_of self.new)) }
+        ensures priorities { OnOk result (self.new.waiting.priorities ≡ self.old.waiting.priorities) }
     {
         match step_of(script, client, self.next_of(client)) {
-            Some(Step::Submit { queue, .. }) => self.submit(client, *queue),
+            Some(
+                Step::Submit {
+                    queue,
+                    task,
+                    timeout,
+                    ack: _,
+                },
+            ) => {
+                self.submit(alloc, client, *queue, task, *timeout)?;
+                Ok(true)
+            }
             Some(
                 Step::Await {
                     step,
                     goal: Goal::Task,
                 },
-            ) => {
-                self.await_task(client, *step);
-                Ok(())
+            ) => Ok(self.await_task(client, *step)),
+            Some(Step::Sleep { ms }) => {
+                self.sleep(client, *ms);
+                Ok(true)
             }
-            _ => Ok(()),
+            _ => Ok(false),
         }
     }
 
@@ -129,81 +205,112 @@ impl Replay {
 
     /// A client's next step was performed.
     fn step_on(&mut self, client: u32)
-        requires client { client < length self.old.positions }
-        requires step { next_at self.old.positions client < 4096 }
-        ensures { self.new ≡ stepped_on self.old client }
+        requires { CanStep self.old client }
+        ensures { self.new ≡ moved_in self.old client }
     {
         let step = self.next_of(client);
         self.positions.set(client as usize, step + 1);
-        self.acted = true;
     }
 
-    /// A client's next step submits a task to a queue: it joins the waiting list.
-    fn submit(&mut self, client: u32, queue: u32) -> Result<(), OutOfMemory>
-        requires client { client < length self.old.positions }
-        requires step { next_at self.old.positions client < 4096 }
-        ensures { OnOk result (self.new ≡ submitted_to self.old client queue) }
+    /// A client's next step submits a task to a queue: it joins what waits.
+    fn submit(
+        &mut self,
+        alloc: Global,
+        client: u32,
+        queue: u32,
+        task: &Task,
+        timeout: Option<u64>,
+    ) -> Result<(), OutOfMemory>
+        requires { CanSubmit self.old client queue }
+        ensures { OnOk result (self.new ≡ submitted_in self.old client queue task.now timeout) }
     {
-        let entry = Entry {
-            client,
-            step: self.next_of(client),
-            seen: number_at(&self.awaited, client),
-        };
-        self.waiting.push(Waiting {
+        let step = self.next_of(client);
+        let submission = Submission {
+            step,
             queue,
-            entry,
-            at: self.clock,
-        })?;
+            task: task.copy(alloc)?,
+            seen: number_at(&self.awaited, client),
+            deadline: deadline_of(self.clock, timeout),
+        };
+        if self
+            .waiting
+            .submit(&mut self.tasks, client, submission)
+            .is_err()
+        {
+            return Err(OutOfMemory);
+        }
+        self.ats.set(client, step, self.clock);
         self.step_on(client);
         Ok(())
     }
 
-    /// A client's next step awaits the task of an earlier one: it is performed where the client was told how the
-    /// task ended.
-    fn await_task(&mut self, client: u32, earlier: u32)
-        requires client { client < length self.old.positions }
-        requires place { client < length self.old.awaited }
-        requires step { next_at self.old.positions client < 4096 }
-        ensures { self.new ≡ awaited_by self.old client (batch_told self.old.told client earlier) }
+    /// A client's next step awaits the task of an earlier one: it is performed where the task has ended.
+    fn await_task(&mut self, client: u32, earlier: u32) -> bool
+        requires { CanAwait self.old client earlier }
+        ensures turn { after_turn (false, serial_of self.old) (awaited_in self.old client earlier) ≡ (result, serial_of self.new) }
+        ensures waiting { self.new.waiting ≡ self.old.waiting }
     {
-        let Some(batch) = self.told.batch_of(client, earlier) else {
-            return;
+        let id = TaskId {
+            client,
+            step: earlier,
+        };
+        let batch = match self.tasks.poll(client, id) {
+            TaskPoll::NotYet => return false,
+            TaskPoll::Ended { code } => code.batch,
+            TaskPoll::Timed { .. } => 0,
         };
         let greatest = number_at(&self.awaited, client).max(batch);
         self.awaited.set(client as usize, greatest);
         self.step_on(client);
+        true
     }
 
-    /// The master's turn: it takes all that waits in one queue, and tells each client how its task ended. It does
-    /// nothing where nothing waits.
-    #[tactic(auto, using(crate::proofs::Serving::turned_by_master, crate::proofs::Serving::taken_joins, crate::proofs::Linking::rooms_left, crate::proofs::Linking::linked_by_master))]
+    /// A client's next step lets time pass: each task that waits times out whose deadline is there.
+    fn sleep(&mut self, client: u32, ms: u64)
+        requires { CanSleep self.old client ms }
+        ensures { self.new ≡ slept_in self.old client ms }
+    {
+        self.step_on(client);
+        self.clock = due(self.clock, ms);
+        expire_all(&mut self.tasks, self.waiting.waiting(), self.clock);
+    }
+
+    // ---- the master
+
+    /// The master's turn: it takes all that waits in one queue, and what hasn't timed out is a batch. It does nothing where
+    /// nothing waits.
     fn master_turn<L: Link>(
         &mut self,
         alloc: Global,
         script: &Script,
         links: &mut [L],
-    ) -> Result<(), OutOfMemory>
+    ) -> Result<bool, OutOfMemory>
         requires script { IsScript script.now }
         requires sound { IsSound script.now self.old }
-        requires linked { IsLinked script.now self.old (map L.meaning links.old) }
-        ensures turn { OnOk result (self.new ≡ master_turn script.now self.old) }
+        requires linked { IsLinked script.now (course_of self.old) (map L.meaning links.old) }
+        ensures turn { IfOk result (λ acted. after_turn (false, serial_of self.old) (master_turn script.now (serial_of self.old)) ≡ (acted, serial_of self.new)) }
         ensures sound { OnOk result (IsSound script.now self.new) }
-        ensures linked { OnOk result (IsLinked script.now self.new (map L.meaning links.new)) }
+        ensures linked { OnOk result (IsLinked script.now (course_of self.new) (map L.meaning links.new)) }
     {
-        let Some(number) = next_queue(script.queues.as_slice(), self.waiting.as_slice()) else {
-            return Ok(());
+        let Some(Taken { queue, waiting }) = self.waiting.take(&mut self.tasks)? else {
+            return Ok(false);
         };
-        let Parted { taken, left } = part(alloc, self.waiting.as_slice(), number)?;
-        let entries = entries_of(alloc, taken.as_slice())?;
-        self.add_batch(script, number, entries, links)?;
-        let batch = self.book.count();
-        self.told.tell(batch, taken.as_slice(), self.book.ends())?;
-        self.waiting = left;
-        self.acted = true;
-        Ok(())
+        let batch = self.book.count() + 1;
+        let entries = gather(alloc, &mut self.tasks, batch, waiting.as_slice())?;
+        if entries.as_slice().is_empty() {
+            return Ok(true);
+        }
+        self.add_batch(script, queue, entries, links)?;
+        end_all(
+            &mut self.tasks,
+            batch,
+            self.book.last_entries(),
+            self.book.ends(),
+        );
+        Ok(true)
     }
 
-    /// The entries of what waits in a queue are added to the book as a batch, at the moment of the clock.
+    /// Entries of a queue are added to the book as a batch, at the moment of the clock.
     #[tactic(auto, using(crate::proofs::Linking::used_by_batch))]
     fn add_batch<L: Link>(
         &mut self,
@@ -213,12 +320,10 @@ impl Replay {
         links: &mut [L],
     ) -> Result<(), OutOfMemory>
         requires script { IsScript script.now }
-        requires sound { IsSound script.now self.old }
-        requires linked { IsLinked script.now self.old (map L.meaning links.old) }
+        requires order { IsOrdered script.now self.old.book.batches }
         requires joins { CanJoinAt script.now self.old.book number entries.items }
-        requires room { HaveRoom (map L.meaning links.old) }
-        ensures added { OnOk result (self.new ≡ record self.old { book = added script.now self.old.book number entries.items self.old.clock }) }
-        ensures order { OnOk result (IsOrdered script.now self.new.book.batches) }
+        requires over { IsOverLinks script.now self.old (map L.meaning links.old) }
+        ensures added { OnOk result (self.new ≡ record self.old { book = added script.now self.old.book number entries.items self.old.clock self.old.clock }) }
         ensures links { OnOk result (AreLinksOf script.now.nodes self.new.book.world (map L.meaning links.new)) }
         ensures used { OnOk result (AreUsed (map L.meaning links.old) (map L.meaning links.new)) }
     {
@@ -226,6 +331,8 @@ impl Replay {
         self.book
             .add(script, number, entries, self.clock, links, &clock)
     }
+
+    // ---- the end
 
     /// The world after its batches.
     pub(crate) fn world(&self) -> &World
@@ -235,10 +342,12 @@ impl Replay {
     }
 
     /// The session that the replay has made.
-    pub(crate) fn finish(self, alloc: Global) -> Result<Session, OutOfMemory>
-        ensures { IfOk result (λ made. made ≡ session_of self) }
+    pub(crate) fn finish(self, alloc: Global, script: &Script) -> Result<Session, OutOfMemory>
+        requires script { IsScript script.now }
+        requires sound { IsSound script.now self }
+        ensures { IfOk result (λ made. made ≡ session_of script.now (course_of self)) }
     {
-        let replies = self.told.replies(alloc)?;
+        let replies = collect(alloc, script, &self.tasks, &self.ats)?;
         let BookEnd { batches, last } = self.book.finish();
         Ok(Session {
             batches,
@@ -252,9 +361,21 @@ impl Replay {
     }
 }
 
+/// How many steps each client has.
+fn lanes_of(alloc: Global, script: &Script) -> Result<Items<u32>, OutOfMemory>
+    requires { IsScript script.now }
+    ensures { IfOk result (λ made. made ≡ lanes_of script.now) }
+{
+    let mut lanes = Items::new(alloc);
+    for steps in script.clients.as_slice() {
+        lanes.push(steps.len() as u32)?;
+    }
+    Ok(lanes)
+}
+
 /// A zero for each client.
 fn zeros(alloc: Global, script: &Script) -> Result<Items<u32>, OutOfMemory>
-    ensures { IfOk result (λ made. made ≡ map (λ steps. 0) script.now.clients) }
+    ensures { IfOk result (λ made. made ≡ zeros_of script.now) }
 {
     let mut zeros = Items::new(alloc);
     for _steps in script.clients.as_slice() {

@@ -1,21 +1,22 @@
-use Rattle.std.proofs.Common.{sym, ◌∙◌}
-use Rattle.master_run.specs.Replays.{rounds}
-use Rattle.master_run.proofs.Resting.{no_round_left, round_acts, round_ends}
+use Rattle.master_run.specs.Replays.{serial_of}
+use Rattle.master_run.proofs.Resting.{round_ended, round_on, round_smaller}
+use Rattle.master_run.proofs.Turning.{on_time}
 use Rattle.master_run.proofs.serial_core.perform_rounds.Goals as goal
 
-pub returns-then-not-branch : goal.returns-then-not-branch
-returns-then-not-branch g c =
-    round_ends c.args.script.now c.loop-left.left c.loop-left.replay c.round.new.self (rounds c.args.script.now c.args.most c.args.replay.now)
-    c.in_ok-round.ensures.round (sym c.in_ok-round.ensures.acted ∙ c.if-not-branch.true) c.loop-left-test.true c.loop-left.invariant.leads
+pub returns-then-not-branch-clause-rest : goal.returns-then-not-branch-clause-rest
+returns-then-not-branch-clause-rest g c =
+    round_ended c.args.script.now (serial_of c.loop.replay) (serial_of c.round.new.self) _ c.in_ok-round.field-0 c.requires.script (on_time c.args.script.now c.loop.replay c.loop.invariant.sound)
+    c.in_ok-round.ensures.round c.if-not-branch.true c.loop.invariant.ends
 
-pub loop-left-preserved : goal.loop-left-preserved
-loop-left-preserved g c = record {
-  leads = round_acts c.args.script.now c.loop-left.left c.loop-left.replay c.round.new.self (rounds c.args.script.now c.args.most c.args.replay.now)
-      c.in_ok-round.ensures.round (sym c.in_ok-round.ensures.acted ∙ c.if-not-branch.false) c.loop-left-test.true c.loop-left.invariant.leads;
+pub loop-smaller : goal.loop-smaller
+loop-smaller g c =
+    round_smaller c.args.script.now (serial_of c.loop.replay) (serial_of c.round.new.self) c.in_ok-round.field-0 c.requires.script (on_time c.args.script.now c.loop.replay c.loop.invariant.sound)
+    c.in_ok-round.ensures.round c.if-not-branch.false
+
+pub loop-preserved : goal.loop-preserved
+loop-preserved g c = record {
+  ends = round_on c.args.script.now (serial_of c.loop.replay) (serial_of c.round.new.self) _ c.in_ok-round.field-0 c.requires.script (on_time c.args.script.now c.loop.replay c.loop.invariant.sound)
+      c.in_ok-round.ensures.round c.if-not-branch.false c.loop.invariant.ends;
   sound = c.in_ok-round.ensures.sound;
   linked = c.in_ok-round.ensures.linked;
 }
-
-pub returns : goal.returns
-returns g c =
-    no_round_left c.args.script.now c.loop-left.left c.loop-left.replay (rounds c.args.script.now c.args.most c.args.replay.now) c.loop-left-test.false c.loop-left.invariant.leads

@@ -8,4 +8,4 @@ pub returns-clause-added : goal.returns-clause-added
 returns-clause-added g c =
     on_ok_weaker c.add.result
     (rebooked_over_links c.args.script.now c.args.number c.args.entries.items _ (map g.L.Link.meaning c.args.links.now) (map g.L.Link.meaning c.add.new.links)
-    c.args.self.now c.add.new.self c.requires.script c.requires.linked (λ read h. (unsigned_Decides read c.new-clock.result).0 h ∙ c.new-clock.ensures)) c.add.ensures.added
+    c.args.self.now c.add.new.self c.requires.script c.requires.over (λ read h. (unsigned_Decides read c.new-clock.result).0 h ∙ c.new-clock.ensures)) c.add.ensures.added

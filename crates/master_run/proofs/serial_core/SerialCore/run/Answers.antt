@@ -1,22 +1,46 @@
 use Rattle.std.proofs.Common.{◌∙◌, List, ap, map}
 use Rattle.publication.specs.InMemory.{MemLinkView}
+use Rattle.master_run.specs.Replays.{serial_of}
+use Rattle.master_run.proofs.Finishing.{comes_to_rest, is_serial, replayed_if}
 use Rattle.master_run.proofs.Linking.{begins_linked}
-use Rattle.master_run.proofs.Resting.{is_serial}
 use Rattle.master_run.proofs.serial_core.SerialCore.run.Goals as goal
 
-pub returns-in_err-replay-clause-serial : goal.returns-in_err-replay-clause-serial
-returns-in_err-replay-clause-serial c = is_serial c.args.script.now c.requires.script
-
-pub returns-in_err-links-clause-serial : goal.returns-in_err-links-clause-serial
-returns-in_err-links-clause-serial c = is_serial c.args.script.now c.requires.script
-
-pub perform_rounds-requires-clause-linked : goal.perform_rounds-requires-clause-linked
-perform_rounds-requires-clause-linked c =
-    begins_linked c.args.script.now c.in_ok-replay.replay c.world.result.now _ c.requires.built c.in_ok-replay.ensures.first c.world.ensures
+pub follow-requires-clause-linked : goal.follow-requires-clause-linked
+follow-requires-clause-linked c =
+    begins_linked c.args.script.now (serial_of c.in_ok-replay.replay) c.world.result.now _ c.requires.built c.in_ok-replay.ensures.first c.world.ensures
     (ap (λ (items : List MemLinkView). map (λ (link : MemLinkView). link.meaning) items) c.deref_mut.ensures.value ∙ c.in_ok-links.ensures)
 
-pub returns-in_err-perform_rounds-clause-serial : goal.returns-in_err-perform_rounds-clause-serial
-returns-in_err-perform_rounds-clause-serial c = is_serial c.args.script.now c.requires.script
+pub returns-clause-replayed : goal.returns-clause-replayed
+returns-clause-replayed c =
+    replayed_if c.finish.result c.args.script.now (serial_of c.in_ok-replay.replay) (serial_of c.follow.new.self) (serial_of c.perform_rounds.new.replay) c.in_ok-replay.ensures.first
+    c.in_ok-follow.ensures.turns c.in_ok-perform_rounds.ensures.rest c.finish.ensures
 
-pub returns-clause-serial : goal.returns-clause-serial
-returns-clause-serial c = is_serial c.args.script.now c.requires.script
+pub returns-in_err-replay-clause-lawful : goal.returns-in_err-replay-clause-lawful
+returns-in_err-replay-clause-lawful c = is_serial c.args.script.now c.requires.script c.requires.built
+
+pub returns-in_err-replay-clause-rested : goal.returns-in_err-replay-clause-rested
+returns-in_err-replay-clause-rested c = comes_to_rest c.args.script.now c.requires.script c.requires.built
+
+pub returns-in_err-links-clause-lawful : goal.returns-in_err-links-clause-lawful
+returns-in_err-links-clause-lawful c = is_serial c.args.script.now c.requires.script c.requires.built
+
+pub returns-in_err-links-clause-rested : goal.returns-in_err-links-clause-rested
+returns-in_err-links-clause-rested c = comes_to_rest c.args.script.now c.requires.script c.requires.built
+
+pub returns-in_err-follow-clause-lawful : goal.returns-in_err-follow-clause-lawful
+returns-in_err-follow-clause-lawful c = is_serial c.args.script.now c.requires.script c.requires.built
+
+pub returns-in_err-follow-clause-rested : goal.returns-in_err-follow-clause-rested
+returns-in_err-follow-clause-rested c = comes_to_rest c.args.script.now c.requires.script c.requires.built
+
+pub returns-in_err-perform_rounds-clause-lawful : goal.returns-in_err-perform_rounds-clause-lawful
+returns-in_err-perform_rounds-clause-lawful c = is_serial c.args.script.now c.requires.script c.requires.built
+
+pub returns-in_err-perform_rounds-clause-rested : goal.returns-in_err-perform_rounds-clause-rested
+returns-in_err-perform_rounds-clause-rested c = comes_to_rest c.args.script.now c.requires.script c.requires.built
+
+pub returns-clause-lawful : goal.returns-clause-lawful
+returns-clause-lawful c = is_serial c.args.script.now c.requires.script c.requires.built
+
+pub returns-clause-rested : goal.returns-clause-rested
+returns-clause-rested c = comes_to_rest c.args.script.now c.requires.script c.requires.built
