@@ -1,7 +1,8 @@
 #!/usr/bin/env bash
 # Times the program on long scripts: how long one takes to be read, how much of that is JSON alone, how the report grows
-# with the batches, what a small change costs where there is much, and what publications cost. README.md, beside this
-# file, says how to read what it prints. With words, it runs the scripts alone whose names begin with one of them.
+# with the batches, what one large batch and what several clients cost, what a small change costs where there is much,
+# and what publications cost. README.md, beside this file, says how to read what it prints. With words, it runs the
+# scripts alone whose names begin with one of them.
 set -euo pipefail
 
 top=$(cd "$(dirname "$0")/.." && pwd)
@@ -25,9 +26,21 @@ steps = "[" + ",".join(["[" + ",".join([step] * 4096) + "]"] * 32) + "]"
 write("steps_read", 1, steps)
 # the same with a wrong version, at which the reader stops: the rest is JSON alone
 write("steps_json_alone", 2, steps)
+submits = lambda places: ['{"do":"submit","queue":"q","task":{"index":"index-%d"}}' % k for k in places]
 for count in (707, 1414, 2828):
-    submits = ['{"do":"submit","queue":"q","task":{"index":"index-%d"}}' % k for k in range(count)]
-    write(f"batches_{count}", 1, "[[" + ",".join(submits) + "]]")
+    steps = ",".join(submits(range(count)))
+    write(f"batches_{count}", 1, "[[" + steps + "]]")
+    # the same in one batch: all is submitted before the master's turn
+    turns = ",".join(['"c0"'] * count + ['"m"'])
+    write(f"together_{count}", 1, "[[" + steps + ']],"schedule":[' + turns + "]")
+# four clients, each of which awaits a task before it submits the next one
+for count in (500, 1000, 2000):
+    clients = []
+    for client in range(4):
+        steps = [(submit, '{"do":"await","step":%d,"for":"task"}' % (2 * k))
+                 for k, submit in enumerate(submits(range(client, count, 4)))]
+        clients.append("[" + ",".join(step for pair in steps for step in pair) + "]")
+    write(f"clients_{count}", 1, "[" + ",".join(clients) + "]")
 
 def submit(queue, **task):
     return {"do": "submit", "queue": queue, "task": task}
@@ -89,6 +102,7 @@ instructions_of() {
 "$top/bin/esmaster" none </dev/null || true
 program=$top/crates/esmaster/out/esmaster
 names="steps_read steps_json_alone batches_707 batches_1414 batches_2828"
+names="$names together_707 together_1414 together_2828 clients_500 clients_1000 clients_2000"
 for kind in replicas unchanged aliases; do names="$names ${kind}_350 ${kind}_700 ${kind}_1400"; done
 names="$names publish_125 publish_250 publish_500 nodes_7 nodes_14 nodes_28"
 for kind in made among; do names="$names ${kind}_175 ${kind}_350 ${kind}_700"; done

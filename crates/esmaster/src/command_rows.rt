@@ -27,8 +27,8 @@ pub(crate) struct Row {
 }
 
 // Each worked out by hand.
-pub(crate) const ROWS: [Row; 30] = [
-    // a script without clients
+pub(crate) const ROWS: [Row; 31] = [
+    // a script without clients, and clients without steps
     Row {
         words: "replay",
         blanks: 0,
@@ -46,6 +46,19 @@ state {"cluster":"demo","id":1,"master":"n0","metadata":{"created":0,"indices":{
         words: "replay",
         blanks: 0,
         script: ["@[[]]}", "", ""],
+        pieces: [("", 0), ("", 0)],
+        comma: ",",
+        fails: false,
+        room: 1_000_000,
+        status: 0,
+        written: r#"report 1
+state {"cluster":"demo","id":1,"master":"n0","metadata":{"created":0,"indices":{},"settings":{},"version":1},"nodes":{"n0":{"eligible":true}},"term":1,"version":1}
+"#,
+    },
+    Row {
+        words: "replay",
+        blanks: 0,
+        script: ["@[[],[]]}", "", ""],
         pieces: [("", 0), ("", 0)],
         comma: ",",
         fails: false,
@@ -403,7 +416,7 @@ state {"cluster":"demo","id":4,"master":"n0","metadata":{"created":0,"indices":{
     Row {
         words: "replay",
         blanks: 0,
-        script: ["@[[],[]]}", "", ""],
+        script: [r#"@[[{"do":"close"}]]}"#, "", ""],
         pieces: [("", 0), ("", 0)],
         comma: ",",
         fails: false,
@@ -539,7 +552,7 @@ state {"cluster":"demo","id":1,"master":"n0","metadata":{"created":0,"indices":{
 ];
 
 // Scripts of many steps, faults or turns.
-pub(crate) const LONG: [Row; 10] = [
+pub(crate) const LONG: [Row; 11] = [
     // 2,828 submits come to 7,997,584 for one node, and one more to 8,003,241
     Row {
         words: "replay",
@@ -590,8 +603,10 @@ pub(crate) const LONG: [Row; 10] = [
         comma: ",",
         fails: false,
         room: 1_000_000,
-        status: 2,
-        written: "refused bad_shape $ not_built\n",
+        status: 0,
+        written: r#"report 1
+state {"cluster":"c","id":1,"master":"a","metadata":{"created":0,"indices":{},"settings":{},"version":1},"nodes":{"a":{"eligible":true}},"term":1,"version":1}
+"#,
     },
     Row {
         words: "replay",
@@ -656,8 +671,10 @@ pub(crate) const LONG: [Row; 10] = [
         comma: ",",
         fails: false,
         room: 1_000_000,
-        status: 2,
-        written: "refused bad_shape $ not_built\n",
+        status: 0,
+        written: r#"report 1
+state {"cluster":"demo","id":1,"master":"n0","metadata":{"created":0,"indices":{},"settings":{},"version":1},"nodes":{"n0":{"eligible":true},"n1":{"eligible":true}},"term":1,"version":1}
+"#,
     },
     Row {
         words: "replay",
@@ -673,6 +690,32 @@ pub(crate) const LONG: [Row; 10] = [
         room: 1_000_000,
         status: 2,
         written: "refused limit schedule\n",
+    },
+    // the clock stays at 2^43 - 2: 2,048 sleeps come to 2,046 less; a deadline is no later than that moment, and a sleep at
+    // which the clock stays lets a task time out; one without a timeout waits on
+    Row {
+        words: "replay",
+        blanks: 0,
+        script: [
+            r#"{"version":1,"cluster":"c","nodes":[{"name":"a"}],"queues":[{"name":"slow","executor":"cluster_settings","priority":"LANGUID"},{"name":"glob","executor":"cluster_settings"}],"clients":[["#,
+            r#",{"do":"submit","queue":"slow","task":{"key":"i","value":"1"},"timeout":4294967295},{"do":"sleep","ms":2045},{"do":"sleep","ms":4294967295},{"do":"submit","queue":"slow","task":{"key":"j","value":"1"},"timeout":1},{"do":"submit","queue":"glob","task":{"key":"k","value":"1"}},{"do":"sleep","ms":0}]],"schedule":["#,
+            r#","m"]}"#,
+        ],
+        pieces: [
+            (r#"{"do":"sleep","ms":4294967295}"#, 2048),
+            (r#""c0""#, 2054),
+        ],
+        comma: ",",
+        fails: false,
+        room: 1_000_000,
+        status: 0,
+        written: r#"report 1
+batch 1 queue glob at 8796093022206 tasks 0.2052/0 published 2 id 2 commit 8796093022206 diffs 1 fulls 0 accepted 1
+task 0.2048 at 8796093020160 timeout 8796093022206 8796093022206
+task 0.2051 at 8796093022206 timeout 8796093022206 8796093022206
+task 0.2052 at 8796093022206 ok 2
+state {"cluster":"c","id":2,"master":"a","metadata":{"created":0,"indices":{},"settings":{"k":"1"},"version":2},"nodes":{"a":{"eligible":true}},"term":1,"version":2}
+"#,
     },
     // 1,001 submits and 3,996 reads come to 3,999,996, and one read more to 4,000,997
     Row {

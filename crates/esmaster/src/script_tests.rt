@@ -272,11 +272,6 @@ bad_shape version version | {"\u0076ersion":2}
 -- right by the walk, and not built yet: an await for an acknowledgement or a watch
 bad_shape $ not_built | {"version":1,"cluster":"c","nodes":[{"name":"a"}],"queues":[{"name":"q","executor":"create_index"}],"clients":[[{"do":"submit","queue":"q","task":{"index":"i"},"ack":{"nodes":"all"}},{"do":"await","step":0,"for":"ack"}]]}
 bad_shape $ not_built | {"version":1,"cluster":"c","nodes":[{"name":"a"}],"queues":[],"clients":[[{"do":"watch","node":"a","pred":{"index":"i"},"timeout":1},{"do":"await","step":0,"for":"watch"}]]}
--- more clients, a schedule, a timeout, a sleep
-bad_shape $ not_built | {"version":1,"cluster":"c","nodes":[{"name":"a"}],"queues":[],"clients":[[],[]]}
-bad_shape $ not_built | {"version":1,"cluster":"c","nodes":[{"name":"a"}],"queues":[],"clients":[],"schedule":["m"]}
-bad_shape $ not_built | {"version":1,"cluster":"c","nodes":[{"name":"a"}],"queues":[{"name":"q","executor":"create_index"}],"clients":[[{"do":"submit","queue":"q","task":{"index":"i"},"timeout":1}]]}
-bad_shape $ not_built | {"version":1,"cluster":"c","nodes":[{"name":"a"}],"queues":[],"clients":[[{"do":"sleep","ms":0}]]}
 -- acknowledgements
 bad_shape $ not_built | {"version":1,"cluster":"c","nodes":[{"name":"a"}],"queues":[{"name":"q","executor":"create_index"}],"clients":[[{"do":"submit","queue":"q","task":{"index":"i"},"ack":{"nodes":"all"}}]]}
 bad_shape $ not_built | {"version":1,"cluster":"c","nodes":[{"name":"a"},{"name":"b"}],"queues":[{"name":"q","executor":"create_index"}],"clients":[[{"do":"submit","queue":"q","task":{"index":"i"},"timeout":0,"ack":{"nodes":["b","a"],"timeout":4294967295}}]]}
@@ -311,7 +306,16 @@ accepted | {"version":1,"cluster":"c","nodes":[{"name":"a"},{"name":"b","member"
 accepted | {"version":1,"cluster":"c","nodes":[{"name":"a"},{"name":"b"}],"queues":[],"clients":[]}
 accepted | {"version":1,"cluster":"c","nodes":[{"name":"n0"},{"name":"n1"},{"name":"n2"},{"name":"n3"},{"name":"n4"},{"name":"n5"},{"name":"n6"},{"name":"n7"},{"name":"n8"},{"name":"n9"},{"name":"n10"},{"name":"n11"},{"name":"n12"},{"name":"n13"},{"name":"n14"},{"name":"n15"},{"name":"n16"},{"name":"n17"},{"name":"n18"},{"name":"n19"},{"name":"n20"},{"name":"n21"},{"name":"n22"},{"name":"n23"},{"name":"n24"},{"name":"n25"},{"name":"n26"},{"name":"n27"},{"name":"n28"},{"name":"n29"}],"queues":[],"clients":[]}
 -- an await for a task
-accepted | {"version":1,"cluster":"c","nodes":[{"name":"a"}],"queues":[{"name":"q","executor":"create_index"}],"clients":[[{"do":"submit","queue":"q","task":{"index":"i"}},{"do":"await","step":0,"for":"task"}]]}"#;
+accepted | {"version":1,"cluster":"c","nodes":[{"name":"a"}],"queues":[{"name":"q","executor":"create_index"}],"clients":[[{"do":"submit","queue":"q","task":{"index":"i"}},{"do":"await","step":0,"for":"task"}]]}
+-- several clients, a schedule, a timeout, a sleep
+accepted | {"version":1,"cluster":"c","nodes":[{"name":"a"}],"queues":[],"clients":[[],[]]}
+accepted | {"version":1,"cluster":"c","nodes":[{"name":"a"}],"queues":[],"clients":[[],[],[],[],[],[],[],[],[],[],[],[],[],[],[],[],[],[],[],[],[],[],[],[],[],[],[],[],[],[],[],[]],"schedule":["c31"]}
+accepted | {"version":1,"cluster":"c","nodes":[{"name":"a"}],"queues":[],"clients":[],"schedule":["m"]}
+accepted | {"version":1,"cluster":"c","nodes":[{"name":"a"},{"name":"b","member":false}],"queues":[],"clients":[[],[]],"schedule":["n:b","c1","m","c0","c0","n:a"]}
+accepted | {"version":1,"cluster":"c","nodes":[{"name":"a"}],"queues":[{"name":"q","executor":"create_index"}],"clients":[[{"do":"submit","queue":"q","task":{"index":"i"},"timeout":1}]]}
+accepted | {"version":1,"cluster":"c","nodes":[{"name":"a"}],"queues":[{"name":"q","executor":"create_index"}],"clients":[[{"do":"submit","queue":"q","task":{"index":"i"},"timeout":4294967295}]]}
+accepted | {"version":1,"cluster":"c","nodes":[{"name":"a"}],"queues":[],"clients":[[{"do":"sleep","ms":0}]]}
+accepted | {"version":1,"cluster":"c","nodes":[{"name":"a"}],"queues":[],"clients":[[{"do":"sleep","ms":4294967295}]]}"#;
 
 /// What the program says of a text after the word `refused`, or that it is accepted.
 fn says(alloc: Global, text: &str) -> Result<String, Fail> {
@@ -336,6 +340,6 @@ fn each_script_comes_to_what_the_table_says(rt: HostRuntime) -> Result<(), Fail>
         assert_eq!(rt; said.as_str(), expected);
         checked = u32::saturating_add(checked, 1);
     }
-    assert_eq!(rt; checked, 277);
+    assert_eq!(rt; checked, 281);
     Ok(())
 }
