@@ -11,6 +11,8 @@ mod replays;
 mod script_tests;
 #[cfg(test)]
 mod tests;
+#[cfg(test)]
+mod turn_rows;
 
 use commands::esmaster;
 use edge_io::{MillisClock, OpenGate, StdSink, StdSource};
