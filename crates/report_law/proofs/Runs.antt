@@ -130,9 +130,9 @@ pub key_bytes : (key : List ℕ) → IsTrue (is_key key) → IsTrue (list_all is
 key_bytes key keyed = all_wider is_key_byte is_inner (is_inner_kind is_key_byte refl refl refl) key (and_parts _ _ (and_parts _ _ keyed).1).1
 
 -- what an index name breaks no rule of
-if_none : (b : Bool) (n : ℕ) (rest : Option ℕ) → (if b then Some n else rest) ≡ None → (b ≡ false) × (rest ≡ None)
-if_none true n rest e = absurd cc
-if_none false n rest e = (refl, e)
+pub if_none : {A : Type 0} (b : Bool) (a : A) (rest : Option A) → (if b then Some a else rest) ≡ None → (b ≡ false) × (rest ≡ None)
+if_none true a rest e = absurd cc
+if_none false a rest e = (refl, e)
 
 no_any : (p : ℕ → Bool) (xs : List ℕ) → list_any p xs ≡ false → list_all (λ b. not (p b)) xs ≡ true
 no_any p [] of = refl

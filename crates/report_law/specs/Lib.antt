@@ -1,4 +1,5 @@
 pub mod Apart
 pub mod Bounds
+pub mod FormLaws
 pub mod GoodForm
 pub mod ReportLaws

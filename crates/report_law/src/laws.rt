@@ -1,3 +1,4 @@
+ghost use Rattle.report_law.specs.FormLaws.{KeptSessionsAreOfGoodForm, LawfulSessionsAreOfGoodForm};
 ghost use Rattle.report_law.specs.ReportLaws.{ReportsFixSessions};
 ghost use Rattle.std.specs.Prelude.{◌≡◌};
 ghost use Rattle.report_law.specs.GoodForm.{IsGoodForm};
@@ -23,3 +24,15 @@ pub fn one_of_its_report(one: &Session, other: &Session)
     numbers_are_words(one);
     numbers_are_words(other);
 }
+
+/// A session of a valid script is of good form whose entries, records, last state and order of lists keep the rules, and
+/// whose reads are of good form. It asks nothing of the results of its batches, and nothing of its ends of tasks,
+/// acknowledgements and watches but their order.
+pub fn kept_sessions_are_of_good_form()
+    ensures { KeptSessionsAreOfGoodForm }
+{}
+
+/// A lawful session of a valid script is of good form, so that its report fixes it.
+pub fn lawful_sessions_are_of_good_form()
+    ensures { LawfulSessionsAreOfGoodForm }
+{}

@@ -1,4 +1,4 @@
-//! The law that a report fixes its session, and the good form that it asks for.
+//! The law that a report fixes its session, the good form that it asks for, and the law that lawful sessions have it.
 #![tactic(auto)]
 
 mod apart;
@@ -8,4 +8,7 @@ mod laws;
 
 pub use bounds::numbers_are_words;
 pub use good_forms::is_good_form;
-pub use laws::{one_of_its_report, reports_fix_sessions};
+pub use laws::{
+    kept_sessions_are_of_good_form, lawful_sessions_are_of_good_form, one_of_its_report,
+    reports_fix_sessions,
+};

@@ -1,0 +1,5 @@
+use Rattle.report_law.proofs.KeptForms as law
+use Rattle.report_law.proofs.laws.lawful_sessions_are_of_good_form.Goals as goal
+
+pub returns : goal.returns
+returns c = law.lawful_sessions_are_of_good_form
