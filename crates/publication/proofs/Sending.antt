@@ -12,8 +12,8 @@ use Rattle.publication.specs.declared.receipts.Receipt.{Receipt}
 use Rattle.publication.specs.declared.receipts.Receipt.TheVariants.{Accepted, Incompatible}
 use Rattle.publication.specs.Deliveries.{CanTake, HoldsOldOrNew, is_in, is_sent_diff}
 use Rattle.publication.specs.LinkMeanings.{HoldsOldOrSent, LinkMeaning}
-use Rattle.publication.specs.Messages.{is_accepted, made_of, received, received_diff}
-use Rattle.publication.specs.Offers.{AreMessagesOf, Change, Holds, IsAccepted, IsRefused}
+use Rattle.publication.specs.Messages.{is_accepted, made_of, received, received_diff, target_id}
+use Rattle.publication.specs.Offers.{AreMessagesOf, Change, Holds, IsAccepted, IsRefused, after_taken}
 
 same_id : (a b : ℕ) → (a == b) ≡ true → a ≡ b
 same_id a b e = grind (arith, nat_tests, e)
@@ -69,11 +69,21 @@ full_comes : (change : Change) (diff full : Message) (before : LinkMeaning) → 
     → received before.held full ≡ (Accepted, change.new)
 full_comes change diff full before are = ap (λ (m : Message). received before.held m) are.full_is ∙ received_full before.held change.new
 
+-- both lead to the new state
+diff_leads : (change : Change) (diff full : Message) → AreMessagesOf change diff full → target_id diff ≡ change.new.id
+diff_leads change diff full are = ap target_id are.diff_is
+
+full_leads : (change : Change) (diff full : Message) → AreMessagesOf change diff full → target_id full ≡ change.new.id
+full_leads change diff full are = ap target_id are.full_is
+
 pub holds_in_full : (change : Change) (diff full : Message) (before after : LinkMeaning) → AreMessagesOf change diff full
     → is_sent_diff change.prev before ≡ false → IsAccepted full before after → Holds change false before after
 holds_in_full change diff full before after are sent taken = record {
   sent = sent;
-  link = taken.link ∙ ap (λ (r : Receipt × ClusterState). record before { held = r.1; ready = true; faults = after.faults }) (full_comes change diff full before are);
+  link =
+      taken.link
+      ∙ (ap (λ (r : Receipt × ClusterState). after_taken (target_id full) r.1 before after.faults) (full_comes change diff full before are)
+      ∙ ap (λ (id : ℕ). after_taken id change.new before after.faults) (full_leads change diff full are));
   faults = taken.faults;
 }
 
@@ -110,7 +120,10 @@ holds_by_diff change diff full before after are can there taken =
     let made = made_by change.new before.held change.prev.id (received before.held diff) (before.held.id == change.prev.id) comes taken.takes in
     record {
       sent = ap (λ (b : Bool). b && (before.held.id == change.prev.id)) there ∙ made.0;
-      link = taken.link ∙ ap (λ (s : ClusterState). record before { held = s; ready = true; faults = after.faults }) made.1;
+      link =
+          taken.link
+          ∙ (ap (λ (s : ClusterState). after_taken (target_id diff) s before after.faults) made.1
+          ∙ ap (λ (id : ℕ). after_taken id change.new before after.faults) (diff_leads change diff full are));
       faults = taken.faults;
     }
 

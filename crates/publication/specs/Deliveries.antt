@@ -2,8 +2,9 @@
 -- full state goes to a node that wasn't in the state before, or that doesn't have it, and a diff to the others, is
 -- Elasticsearch's (`PublicationTransportHandler`). That it commits where the master and more than half of the eligible
 -- nodes accepted, and ends there, is this project's own.
-use Rattle.std.specs.Prelude.{◌≡◌, ◌≤◌, ◌<◌, ◌-◌, ◌==◌, ◌&&◌, ◌⊎◌, ℕ, Bool, true, false, not, List, [], ◌∷◌, ◌++◌, is_some, bytes_eq, count_by, if◌then◌else◌}
+use Rattle.std.specs.Prelude.{◌≡◌, ◌≤◌, ◌<◌, ◌-◌, ◌==◌, ◌&&◌, ◌⊎◌, ℕ, Bool, true, false, not, List, [], ◌∷◌, ◌++◌, Option, Some, is_some, bytes_eq, count_by, if◌then◌else◌}
 use Rattle.std.specs.List.{list_any}
+use Rattle.edge_io.specs.Causes.{counted_up}
 use Rattle.plain_data.specs.Pairs.{lookup}
 use Rattle.meta_state.specs.declared.cluster_state.ClusterState.{ClusterState}
 use Rattle.meta_state.specs.Voters.{is_eligible, is_majority}
@@ -14,12 +15,13 @@ use Rattle.publication.specs.Threes.{AllThree}
 
 -- ---- one link
 
--- what a link has to be, so that a new state can be delivered over it: it doesn't have that state yet, has the state
--- before where it has one of its identifier, and can be handed one commit more
+-- what a link has to be, so that a new state can be delivered over it: its node doesn't have that state yet and wasn't
+-- sent it, has the state before where it has one of its identifier, and can be handed one commit more
 pub record CanTake (prev new : ClusterState) (link : LinkMeaning) : Type 0 where
   pub other : link.held.id ≡ new.id → ⊥
   pub same : link.held.id ≡ prev.id → link.held ≡ prev
   pub room : 0 < link.room
+  pub unsent : link.last ≡ Some new.id → ⊥
 
 abbrev pub is_in : ClusterState → LinkMeaning → Bool
 is_in state link = is_some (lookup link.name state.nodes)
@@ -39,7 +41,8 @@ answer_of prev new link took got = record {
   handed = got;
 }
 
--- what the link has then: a node that accepted holds the new state, and what it was handed grew by it
+-- what the link has then: a node that accepted holds the new state, and what it was handed grew by it. A node of the new
+-- state was sent one publication more, and this is the number of what it was handed.
 abbrev pub held_if : ClusterState → LinkMeaning → Bool → ClusterState
 held_if new link took = if took then new else link.held
 
@@ -52,6 +55,15 @@ handed_if new link got = if got then link.handed ++ new ∷ [] else link.handed
 abbrev pub room_if : LinkMeaning → Bool → ℕ
 room_if link got = if got then link.room - 1 else link.room
 
+abbrev pub last_if : ClusterState → LinkMeaning → Option ℕ
+last_if new link = if is_in new link then Some new.id else link.last
+
+abbrev pub sent_if : ClusterState → LinkMeaning → ℕ
+sent_if new link = if is_in new link then counted_up link.sent else link.sent
+
+abbrev pub numbers_if : ClusterState → LinkMeaning → Bool → List ℕ
+numbers_if new link got = if got then link.numbers ++ sent_if new link ∷ [] else link.numbers
+
 abbrev pub link_after : ClusterState → LinkMeaning → Bool → Bool → ℕ → LinkMeaning
 link_after new link took got count = record {
   name = link.name;
@@ -61,6 +73,10 @@ link_after new link took got count = record {
   room = room_if link got;
   faults = count;
   reliable = link.reliable;
+  last = last_if new link;
+  sent = sent_if new link;
+  numbers = numbers_if new link got;
+  base = link.base;
 }
 
 -- What was delivered over a link, by what it was before and is now. A node that isn't in the new state is sent nothing.

@@ -21,7 +21,7 @@ CanBeHanded new link answer = answer.accepted ≡ true → IsReadyFor new link
 abbrev pub handed_link : LinkMeaning → Bool → ℕ → LinkMeaning
 handed_link link got count =
     if got
-    then record link { ready = false; handed = link.handed ++ link.held ∷ []; room = link.room - 1; faults = count }
+    then record link { ready = false; handed = link.handed ++ link.held ∷ []; room = link.room - 1; faults = count; numbers = link.numbers ++ link.sent ∷ [] }
     else record link { faults = count }
 
 -- whether a node that accepted got the commit, by what its link was and is

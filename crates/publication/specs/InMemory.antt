@@ -1,12 +1,12 @@
 -- The link in memory, as contracts see it. It numbers its calls from 0, and those that are listed can't reach the node.
 -- The number stands still at 2^64 - 1.
-use Rattle.std.specs.Prelude.{◌==◌, ℕ, Bool, true, false, List, [], ◌∷◌, ◌++◌, if◌then◌else◌}
+use Rattle.std.specs.Prelude.{◌==◌, ℕ, Bool, true, false, List, [], ◌∷◌, ◌++◌, None, if◌then◌else◌}
 use Rattle.std.specs.List.{list_any}
 use Rattle.edge_io.specs.Causes.{counted_up}
 use Rattle.meta_state.specs.declared.cluster_state.ClusterState.{ClusterState}
 use Rattle.publication.specs.declared.messages.Message.{Message}
 use Rattle.publication.specs.declared.messages.MessageKind.{MessageKind}
-use Rattle.publication.specs.LinkMeanings.{LinkMeaning, after_hand, after_message}
+use Rattle.publication.specs.LinkMeanings.{LinkMeaning, after_hand, after_message, after_missed}
 use Rattle.publication.specs.Messages.{kind_of}
 
 -- a link, the numbers of the calls that fail, how many calls there were, and the kinds of the messages that were answered
@@ -23,7 +23,19 @@ is_nil (_ ∷ _) = false
 
 abbrev pub new_mem_link : List ℕ → ClusterState → ℕ → List ℕ → MemLinkView
 new_mem_link name held room failing = record {
-  meaning = record { name = name; held = held; ready = false; handed = []; room = room; faults = 0; reliable = is_nil failing };
+  meaning = record {
+    name = name;
+    held = held;
+    ready = false;
+    handed = [];
+    room = room;
+    faults = 0;
+    reliable = is_nil failing;
+    last = None;
+    sent = 0;
+    numbers = [];
+    base = None;
+  };
   failing = failing;
   calls = 0;
   kinds = [];
@@ -42,6 +54,10 @@ counted_call link = (
     calls = counted_up link.calls;
   },
 )
+
+-- a message that couldn't reach the node
+abbrev pub mem_missed : Message → MemLinkView → MemLinkView
+mem_missed message link = record link { meaning = after_missed message link.meaning link.meaning.faults }
 
 -- a message that was answered
 abbrev pub mem_received : Message → MemLinkView → MemLinkView

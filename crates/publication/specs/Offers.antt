@@ -1,5 +1,5 @@
 -- What comes of a message, and of a new state, at one link, before it is committed.
-use Rattle.std.specs.Prelude.{◌≡◌, ◌≤◌, ◌&&◌, Bool, true, false, Some}
+use Rattle.std.specs.Prelude.{◌≡◌, ◌≤◌, ◌&&◌, ℕ, Bool, true, false, Some}
 use Rattle.meta_state.specs.declared.cluster_state.ClusterState.{ClusterState}
 use Rattle.state_diff.specs.StateDiffs.{applied, state_between}
 use Rattle.publication.specs.declared.deliveries.Answer.{Answer}
@@ -10,23 +10,28 @@ use Rattle.publication.specs.declared.offers.Offer.TheVariants as offer
 use Rattle.publication.specs.declared.sendings.Brought.{Brought}
 use Rattle.publication.specs.declared.sendings.Brought.TheVariants as brought
 use Rattle.publication.specs.Deliveries.{is_sent_diff}
-use Rattle.publication.specs.LinkMeanings.{Fails, LinkMeaning, after_fault}
-use Rattle.publication.specs.Messages.{is_accepted, received}
+use Rattle.publication.specs.LinkMeanings.{Fails, LinkMeaning, after_noted, sent_with}
+use Rattle.publication.specs.Messages.{is_accepted, received, target_id}
 
 -- ---- one message
 
+-- a link whose node holds a state now, with the message that leads to a state of this identifier noted
+abbrev pub after_taken : ℕ → ClusterState → LinkMeaning → ℕ → LinkMeaning
+after_taken id held link faults = record link { held = held; ready = true; faults = faults; last = Some id; sent = sent_with id link }
+
 pub record IsAccepted (message : Message) (before after : LinkMeaning) : Type 0 where
   pub takes : is_accepted (received before.held message).0 ≡ true
-  pub link : after ≡ record before { held = (received before.held message).1; ready = true; faults = after.faults }
+  pub link : after ≡ after_taken (target_id message) (received before.held message).1 before after.faults
   pub faults : before.faults ≤ after.faults
 
 pub record IsRefused (message : Message) (before after : LinkMeaning) : Type 0 where
   pub refuses : is_accepted (received before.held message).0 ≡ false
-  pub link : after ≡ after_fault before after.faults
+  pub link : after ≡ after_noted (target_id message) before after.faults
   pub faults : before.faults ≤ after.faults
 
-pub record IsMissed (before after : LinkMeaning) : Type 0 where
-  pub link : after ≡ after_fault before after.faults
+-- by the identifier of the state to which the message leads
+pub record IsMissed (id : ℕ) (before after : LinkMeaning) : Type 0 where
+  pub link : after ≡ after_noted id before after.faults
   pub fails : Fails before after
   pub faults : before.faults ≤ after.faults
 
@@ -34,7 +39,7 @@ pub record IsMissed (before after : LinkMeaning) : Type 0 where
 abbrev pub IsOffered : Message → LinkMeaning → LinkMeaning → Offer → Type 0
 IsOffered message before after offer.Accepted = IsAccepted message before after
 IsOffered message before after offer.Refused = IsRefused message before after
-IsOffered message before after offer.Missed = IsMissed before after
+IsOffered message before after offer.Missed = IsMissed (target_id message) before after
 
 -- ---- a new state
 
@@ -52,13 +57,13 @@ pub record AreMessagesOf (change : Change) (diff full : Message) : Type 0 where
 -- its node has the new state, which is ready to be handed
 pub record Holds (change : Change) (by_diff : Bool) (before after : LinkMeaning) : Type 0 where
   pub sent : is_sent_diff change.prev before ≡ by_diff
-  pub link : after ≡ record before { held = change.new; ready = true; faults = after.faults }
+  pub link : after ≡ after_taken change.new.id change.new before after.faults
   pub faults : before.faults ≤ after.faults
 
 abbrev pub IsBrought : Change → LinkMeaning → LinkMeaning → Brought → Type 0
 IsBrought change before after brought.ByDiff = Holds change true before after
 IsBrought change before after brought.InFull = Holds change false before after
-IsBrought change before after brought.Missed = IsMissed before after
+IsBrought change before after brought.Missed = IsMissed change.new.id before after
 
 -- the answer of a node that was sent it, before the commit, by how it was brought, whether the node counts for the
 -- majority, and whether it is the master

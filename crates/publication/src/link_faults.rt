@@ -4,7 +4,7 @@ use thiserror::Error;
 /// Why a call over a link failed.
 #[derive(Clone, Copy, Debug, PartialEq, Eq, Error)]
 pub enum LinkFault {
-    /// The node can't be reached. It was counted, and nothing else changed.
+    /// The node can't be reached. It was counted, and nothing else changed, but that a message was noted.
     #[error("the node can't be reached")]
     Unreachable = 1,
 

@@ -7,7 +7,7 @@ mod small_links;
 mod small_states;
 
 pub use publishing_nodes::state_of;
-pub use small_links::{can_publish, kinds_told, link_line, link_to, told};
+pub use small_links::{can_publish, counts_told, kinds_told, link_line, link_to, told};
 pub use small_states::state_with;
 
 #[cfg(test)]

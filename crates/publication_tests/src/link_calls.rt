@@ -1,5 +1,5 @@
 use crate::publishing_nodes::state_of;
-use crate::small_links::{can_publish, kinds_told, link_line, link_to, told};
+use crate::small_links::{can_publish, counts_told, kinds_told, link_line, link_to, told};
 use meta_state::ClusterState;
 use plain_data::{Items, OutOfMemory, Text};
 use publication::{MemLink, Publication, publish};
@@ -77,6 +77,18 @@ fn links_after(alloc: Global) -> Result<Items<Text>, Fail> {
         left.push(link_line(alloc, link)?)?;
     }
     Ok(left)
+}
+
+// What each of new links counted in it, of which these calls fail.
+fn counts_after(alloc: Global, failing: [&[u64]; 3]) -> Result<Items<Text>, Fail> {
+    let first = state_of(alloc, 1, &["n0", "n1"], &[])?;
+    let mut links = three_links(alloc, &first, failing)?;
+    let _lines = publish_three(alloc, &mut links)?;
+    let mut counts = Items::new(alloc);
+    for link in links.iter() {
+        counts.push(counts_told(alloc, link)?)?;
+    }
+    Ok(counts)
 }
 
 #[test]
@@ -174,6 +186,47 @@ fn each_node_holds_the_last_state_and_was_handed_each(rt: HostRuntime) -> Result
     for (line, name) in left.as_slice().iter().zip(["n0", "n1", "n2"]) {
         let wanted = format!(in alloc; "{name} handed 2 3 4 room 1 faults 0 holds {LAST}")?;
         assert_eq!(rt; line.as_str(), wanted.as_str());
+    }
+    Ok(())
+}
+
+#[test]
+fn each_publication_counts_once_whatever_comes_of_it(rt: HostRuntime) -> Result<(), Fail> {
+    let alloc = rt.alloc();
+    // which calls of each link fail, and what each link counted: a commit is lost, a first message isn't received, and
+    // neither is the whole state that follows a refused diff
+    let table: [([&[u64]; 3], [&str; 3]); 3] = [
+        (
+            [&[], &[], &[]],
+            [
+                "sent 3 handed at 1 2 3",
+                "sent 3 handed at 1 2 3",
+                "sent 3 handed at 1 2 3",
+            ],
+        ),
+        (
+            [&[], &[], &[1]],
+            [
+                "sent 3 handed at 1 2 3",
+                "sent 3 handed at 1 2 3",
+                "sent 3 handed at 2 3",
+            ],
+        ),
+        (
+            [&[], &[0, 2], &[]],
+            [
+                "sent 3 handed at 1 2 3",
+                "sent 3 handed at 3",
+                "sent 3 handed at 1 2 3",
+            ],
+        ),
+    ];
+    for (failing, expected) in table {
+        let counts = counts_after(alloc, failing)?;
+        assert_eq!(rt; counts.len(), 3);
+        for (line, wanted) in counts.as_slice().iter().zip(expected) {
+            assert_eq!(rt; line.as_str(), wanted);
+        }
     }
     Ok(())
 }

@@ -46,7 +46,10 @@ fn can_take(prev: &ClusterState, new: &ClusterState, link: &MemLink) -> bool
     ensures { IsTrue result → CanTake prev.now new.now link.now.meaning }
 {
     let held = link.state();
-    held.id != new.id && (held.id != prev.id || is_same(held, prev)) && link.room() > 0
+    held.id != new.id
+        && (held.id != prev.id || is_same(held, prev))
+        && link.room() > 0
+        && !link.was_sent(new.id)
 }
 
 /// A publication in one line: what came of it, its counts, and its places.
@@ -85,6 +88,15 @@ pub fn kinds_told(alloc: Global, link: &MemLink) -> Result<Text, OutOfMemory> {
         }
     }
     Ok(Text::from_string(letters))
+}
+
+/// What a link counted: how many publications were sent to its node, and the numbers of those with which this was handed
+/// a state.
+pub fn counts_told(alloc: Global, link: &MemLink) -> Result<Text, OutOfMemory> {
+    let mut line = String::new(alloc);
+    write_number(&mut line, "sent ", link.sent())?;
+    write_places(&mut line, " handed at", link.numbers())?;
+    Ok(Text::from_string(line))
 }
 
 /// A link in one line: its node, what this was handed, the room that is left, the faults, and what the node holds.
