@@ -23,7 +23,8 @@ use Rattle.meta_state.specs.Tables.{aliases_at, aliases_of}
 use Rattle.session_law.specs.Laws.{found_in}
 use Rattle.session_law.specs.Views.{views_of, with_aliases, with_aliases_of_all, with_name}
 use Rattle.session_law.proofs.AliasViews.{views_agree_with_looks}
-use Rattle.node_apply.specs.AliasLists.{AreInOrderAt, AreSetsInOrder, aliases_among, list_of, names_in, some_names}
+use Rattle.node_apply.specs.AliasLists.{AreInOrderAt, AreSetsInOrder, aliases_among, list_of, some_names}
+use Rattle.node_apply.specs.TouchedNames.{names_of, with_names_of}
 use Rattle.node_apply.specs.Updated.{updated}
 use Rattle.node_apply.proofs.Updating.{updated_is}
 
@@ -169,16 +170,32 @@ lists_after before names old new e s t h k agree =
     (λ q. sym (lookup-lists q new after))
     (λ q none. lookup-lists q old h ∙ (same_list q names old new s t agree none ∙ sym (lookup-lists q new after)))
 
--- ---- all names: indices agree with no indices outside of their names
+-- ---- from nothing: indices agree with no indices outside of their names
 
 none_beside : (b : Bool) (v : IndexMetadata) (others : Option (Unit {0})) (o : Option IndexMetadata) → (others ≡ None → None ≡ o) → cond b (Some tt) others ≡ None → None ≡ cond b (Some v) o
 none_beside true v others o h e = absurd cc
 none_beside false v others o h e = h e
 
-none_in : (q : List ℕ) (m : Indices) → lookup q (names_in m) ≡ None → None ≡ lookup q m
+none_in : (q : List ℕ) (m : Indices) → lookup q (names_of m) ≡ None → None ≡ lookup q m
 none_in q [] h = refl
-none_in q (x ∷ m) h = none_beside (is_key q x.0) x.1 (lookup q (names_in m)) (lookup q m) (none_in q m) h
+none_in q (x ∷ m) h = none_beside (is_key q x.0) x.1 (lookup q (names_of m)) (lookup q m) (none_in q m) h
 
-pub agree_outside_all : (names : Names) (none indices : Indices) → names ≡ with_all (names_in indices) [] → none ≡ [] → AgreeOutside names none indices
-agree_outside_all names none indices e empty q h =
-    ap (λ (m : Indices). lookup q m) empty ∙ none_in q indices (none_from_with_all q (names_in indices) [] (ap (λ (n : Names). lookup q n) (sym e) ∙ h)).0
+agree_outside_all : (indices : Indices) → AgreeOutside (with_names_of indices []) [] indices
+agree_outside_all indices q h = none_in q indices (none_from_with_all q (names_of indices) [] h).0
+
+pub sets_from_all : (indices : Indices) → InOrder indices → AreInOrderAt indices (with_names_of indices []) → AreSetsInOrder indices
+sets_from_all indices t k = sets_after (with_names_of indices []) [] indices t tt k (agree_outside_all indices)
+
+no_indices : InOrder {V = IndexMetadata} []
+no_indices = in_order_empty {V = IndexMetadata} [] refl
+
+among_none : (names aliases : Names) → aliases_among [] names aliases ≡ aliases
+among_none [] aliases = refl
+among_none (k ∷ ks) aliases = among_none ks aliases
+
+pub lists_from_none : (none : Lists) (indices : Indices) → none ≡ [] → InOrder indices → AreInOrderAt indices (with_names_of indices [])
+    → updated (list_of indices) (aliases_among indices (with_names_of indices []) []) none ≡ with_aliases_of_all indices []
+lists_from_none none indices empty t k =
+    let names = with_names_of indices [] in
+    ap (λ (aliases : Names). updated (list_of indices) (aliases_among indices names aliases) none) (sym (among_none names []))
+    ∙ lists_after none names [] indices empty no_indices t tt k (agree_outside_all indices)

@@ -2,7 +2,7 @@
 use Rattle.std.proofs.Common.{◌≡◌, List, [], ◌∷◌, ◌++◌, Some, None, Option, refl, sym, subst, ap, ◌∙◌}
 use Rattle.meta_state.specs.declared.cluster_state.ClusterState.{ClusterState}
 use Rattle.meta_state.specs.declared.touches.Touched.{Touched}
-use Rattle.meta_state.specs.Touches.{AgreeOutside, touched_by_both}
+use Rattle.meta_state.specs.Touches.{AgreeOutside}
 use Rattle.meta_state.proofs.Agreeing.{states_agree_outside_both}
 use Rattle.node_apply.specs.Commits.{AreLinked, HandedCommit, MayDiffer, either_touched, first_unknown, last_state}
 

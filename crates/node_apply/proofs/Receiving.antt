@@ -4,7 +4,7 @@ use Rattle.std.specs.List.{list_any}
 use Rattle.std.specs.Option.{option_or}
 use Rattle.meta_state.specs.declared.cluster_state.ClusterState.{ClusterState}
 use Rattle.meta_state.specs.declared.touches.Touched.{Touched}
-use Rattle.meta_state.specs.Touches.{AgreeOutside, touched_by_both}
+use Rattle.meta_state.specs.Touches.{AgreeOutside}
 use Rattle.meta_state.proofs.Agreeing.{states_agree_outside_both}
 use Rattle.state_diff.specs.declared.state_diffs.DiffParts.{DiffParts}
 use Rattle.state_diff.specs.StateDiffs.{applied}
@@ -15,11 +15,12 @@ use Rattle.publication.specs.declared.receipts.Receipt.TheVariants.{Accepted, In
 use Rattle.publication.specs.Messages.{made_of, received, received_diff}
 use Rattle.node_apply.specs.declared.sinces.Since.{Since}
 use Rattle.node_apply.specs.declared.sinces.Since.TheVariants.{Unknown, Same, Among}
+use Rattle.session_law.specs.NodeRecords.{Commit}
 use Rattle.scripts.specs.declared.faults.Fault.{Fault}
 use Rattle.scripts.specs.declared.faults.FaultKind.{FaultKind}
 use Rattle.node_apply.specs.Applying.{Node, passed_on}
-use Rattle.node_apply.specs.Commits.{AreLinked, Handed, HandedCommit, MayDiffer, commits_of, first_unknown, last_state}
-use Rattle.node_apply.specs.NodeLinks.{IsSince, IsTiedLink, NodeLinkView, cuts_node, fault_on, last_commit, passed, since_on}
+use Rattle.node_apply.specs.Commits.{AreLinked, Handed, HandedCommit, MayDiffer, commit_of, commits_of, first_unknown, last_state}
+use Rattle.node_apply.specs.NodeLinks.{IsSince, IsTiedLink, NodeLinkView, commits_told, cuts_node, fault_on, last_commit, passed, since_on, told}
 use Rattle.node_apply.specs.Sinces.{told_by}
 use Rattle.node_apply.specs.TouchedNames.{touched_of}
 use Rattle.node_apply.proofs.Linking.{last_on, linked_on}
@@ -106,37 +107,50 @@ last_commit_is : (base : Option ClusterState) (commits : List HandedCommit) → 
 last_commit_is base [] = refl
 last_commit_is base (c ∷ cs) = last_commit_is (Some c.state) cs
 
+-- the commits of a link, told by their states and numbers
+abbrev told_of : List HandedCommit → List Commit
+told_of commits = commits_told (map (λ c. c.state) commits) (map (λ c. c.publication) commits)
+
+told_are : (commits : List HandedCommit) → told_of commits ≡ commits_of commits
+told_are [] = refl
+told_are (c ∷ cs) = ap (λ l. commit_of c ∷ l) (told_are cs)
+
 -- a link of which the end at which commits are handed, and the last state that is known, have changed
 abbrev link_with : NodeLinkView → Handed → Option ClusterState → NodeLinkView
 link_with old start made = record old {
-  meaning = record old.meaning { handed = map (λ c. c.state) start.commits; room = start.room };
-  commits = commits_of start.commits;
-  base = made;
+  meaning = record old.meaning { handed = map (λ c. c.state) start.commits; room = start.room; numbers = map (λ c. c.publication) start.commits; base = made };
 }
 
-link_passed : (old : NodeLinkView) (commits : List HandedCommit) (before start : Handed) (made : Option ClusterState) → old.commits ≡ commits_of commits
-    → last_state old.base before.commits ≡ last_state old.base commits → before.room ≡ old.meaning.room
-    → start ≡ record before { commits = [] } → made ≡ last_state old.base before.commits → link_with old start made ≡ passed old
+link_passed : (old : NodeLinkView) (commits : List HandedCommit) (before start : Handed) (made : Option ClusterState) → told old.meaning ≡ commits_of commits
+    → last_state old.meaning.base before.commits ≡ last_state old.meaning.base commits → before.room ≡ old.meaning.room
+    → start ≡ record before { commits = [] } → made ≡ last_state old.meaning.base before.commits → link_with old start made ≡ passed old
 link_passed old commits before start made are same room is last =
     (λ i. link_with old (is i) (last i))
     ∙ (λ i. record old {
-      meaning = record old.meaning { handed = []; room = room i };
-      commits = [];
-      base = (same ∙ (sym (last_commit_is old.base commits) ∙ ap (last_commit old.base) (sym are))) i;
+      meaning = record old.meaning {
+        handed = [];
+        room = room i;
+        numbers = [];
+        base = (same ∙ (sym (last_commit_is old.meaning.base commits) ∙ ap (last_commit old.meaning.base) (sym are))) i;
+      };
     })
 
-pub link_after_pass : {E : Type 0} (result : Result (Unit {0}) E) (old now : NodeLinkView) (commits : List HandedCommit) (before start : Handed) (made : Option ClusterState) → old ≡ now → old.commits ≡ commits_of commits
-    → last_state old.base before.commits ≡ last_state old.base commits → before.room ≡ old.meaning.room
-    → OnOk result (start ≡ record before { commits = [] }) → OnOk result (made ≡ last_state old.base before.commits) → OnOk result (link_with old start made ≡ passed now)
-link_after_pass (Ok done) old now commits before start made e are same room is last = link_passed old commits before start made are same room is last ∙ ap passed e
+pub link_after_pass : {E : Type 0} (result : Result (Unit {0}) E) (old now : NodeLinkView) (commits : List HandedCommit) (before start : Handed) (made : Option ClusterState) → old ≡ now
+    → told old.meaning ≡ told_of commits → last_state old.meaning.base before.commits ≡ last_state old.meaning.base commits → before.room ≡ old.meaning.room
+    → OnOk result (start ≡ record before { commits = [] }) → OnOk result (made ≡ last_state old.meaning.base before.commits) → OnOk result (link_with old start made ≡ passed now)
+link_after_pass (Ok done) old now commits before start made e are same room is last =
+    link_passed old commits before start made (are ∙ told_are commits) same room is last ∙ ap passed e
 link_after_pass (Err fault) old now commits before start made e are same room is last = tt
 
 forgotten_commits : (commits : List HandedCommit) → commits_of (first_unknown commits) ≡ commits_of commits
 forgotten_commits [] = refl
 forgotten_commits (c ∷ cs) = refl
 
-pub applier_passed : (old new : Node) (commits : List HandedCommit) → new ≡ passed_on (commits_of (first_unknown commits)) old → new ≡ passed_on (commits_of commits) old
-applier_passed old new commits e = e ∙ ap (λ l. passed_on l old) (forgotten_commits commits)
+pub applier_told : (old new : Node) (commits : List HandedCommit) → new ≡ passed_on (commits_of commits) old → new ≡ passed_on (told_of commits) old
+applier_told old new commits e = e ∙ ap (λ l. passed_on l old) (sym (told_are commits))
+
+pub applier_passed : (old new : Node) (commits : List HandedCommit) → new ≡ passed_on (commits_of (first_unknown commits)) old → new ≡ passed_on (told_of commits) old
+applier_passed old new commits e = applier_told old new commits (e ∙ ap (λ l. passed_on l old) (forgotten_commits commits))
 
 -- ---- faults
 

@@ -1,15 +1,15 @@
 -- What ties the parts of a node's applier together goes on to hold as commits are passed to it, fail and are applied, and the
 -- node after each is the one that its definition says.
-use Rattle.std.proofs.Common.{◌≡◌, ◌+◌, ℕ, true, false, List, [], ◌∷◌, ◌++◌, Some, None, Option, refl, sym, ◌∙◌, ap, subst, map, append_assoc}
+use Rattle.std.proofs.Common.{◌≡◌, ℕ, true, false, List, [], ◌∷◌, ◌++◌, Some, Option, refl, sym, ◌∙◌, ap, subst, map, append_assoc}
+use Rattle.std.specs.Option.{unwrap_or}
 use Rattle.meta_state.specs.declared.cluster_state.ClusterState.{ClusterState}
 use Rattle.meta_state.specs.declared.touches.Touched.{Touched}
 use Rattle.meta_state.specs.Touches.{touched_none}
 use Rattle.meta_state.proofs.Agreeing.{state_agrees_with_itself}
 use Rattle.session_law.specs.declared.node_records.Apply.{Apply}
 use Rattle.node_apply.specs.declared.applied_states.Applied.{Applied}
-use Rattle.node_apply.specs.declared.outcomes.ApplyOutcome.{ApplyOutcome}
 use Rattle.node_apply.specs.declared.outcomes.ApplyOutcome.TheVariants as outcome
-use Rattle.node_apply.specs.Applying.{Node, applied_on, failed_on, last_of_node, last_waiting, next_of, passed_on}
+use Rattle.node_apply.specs.Applying.{Node, applied_on, failed_on, last_waiting, next_of, passed_on}
 use Rattle.node_apply.specs.Commits.{AreLinked, HandedCommit, MayDiffer, commit_of, commits_of, either_touched, last_state, since_first, versions_of}
 use Rattle.node_apply.specs.Standing.{IsAt}
 use Rattle.node_apply.specs.Tied.{IsTied, all_versions}
@@ -43,18 +43,19 @@ one_taken applies line commit rest e =
 
 module _ (before : Applied) (head : ClusterState) (behind : Option Touched) (commits : List HandedCommit) (handed : List ℕ) (applies : List Apply)
     (tied : IsTied before head behind commits handed applies) where
-  pub tied_failed : (commit : HandedCommit) (rest : List HandedCommit) (line : Apply) (since : Option Touched) (state : ClusterState) → commits ≡ commit ∷ rest
-      → line.to ≡ commit.state.version → since ≡ either_touched behind (since_first commits) → state ≡ commit.state
-      → IsTied before state since rest handed (applies ++ line ∷ [])
-  tied_failed commit rest line since state first to is at =
+  pub tied_failed : (commit : HandedCommit) (rest : List HandedCommit) (line : Apply) (missed : Option ClusterState) (since : Option Touched) (now : List Apply) → commits ≡ commit ∷ rest
+      → line.to ≡ commit.state.version → missed ≡ Some commit.state → since ≡ either_touched behind (since_first commits) → now ≡ applies ++ line ∷ []
+      → IsTied before (unwrap_or missed before.state) since rest handed now
+  tied_failed commit rest line missed since now first to is seen e =
       let linked : AreLinked (Some head) (commit ∷ rest) = subst (λ (l : List HandedCommit). AreLinked (Some head) l) first tied.linked in
-      record {
+      let either : since ≡ either_touched behind commit.since = seen ∙ ap (λ (l : List HandedCommit). either_touched behind (since_first l)) first in
+      subst (λ (o : Option ClusterState). IsTied before (unwrap_or o before.state) since rest handed now) (sym is) (record {
         at = tied.at;
-        behind = subst (λ (o : Option Touched). MayDiffer o (Some before.state) state) (sym (is ∙ ap (λ (l : List HandedCommit). either_touched behind (since_first l)) first))
-            (subst (λ (s : ClusterState). MayDiffer (either_touched behind commit.since) (Some before.state) s) (sym at) (differ_by_either behind commit.since (Some before.state) head commit.state tied.behind linked.0));
-        linked = subst (λ (s : ClusterState). AreLinked (Some s) rest) (sym at) linked.1;
-        handed = tied.handed ∙ (ap (all_versions applies) first ∙ one_taken applies line commit rest to);
-      }
+        behind = subst (λ (o : Option Touched). MayDiffer o (Some before.state) commit.state) (sym either)
+            (differ_by_either behind commit.since (Some before.state) head commit.state tied.behind linked.0);
+        linked = linked.1;
+        handed = tied.handed ∙ (ap (all_versions applies) first ∙ (one_taken applies line commit rest to ∙ ap (λ (l : List Apply). all_versions l rest) (sym e)));
+      })
 
   pub tied_applied : (after : Applied) (commit : HandedCommit) (rest : List HandedCommit) (line : Apply) → IsAt after → after.state ≡ commit.state → commits ≡ commit ∷ rest
       → line.to ≡ commit.state.version → IsTied after after.state (Some touched_none) rest handed (applies ++ line ∷ [])

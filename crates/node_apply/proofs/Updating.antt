@@ -1,7 +1,7 @@
 -- A map that was made to say at some keys what another one says there, and that agreed with it at all others, is that one.
 use Rattle.std.proofs.Common.{◌≡◌, ℕ, Bool, true, false, cond, List, [], ◌∷◌, Some, None, Option, refl, sym, ◌∙◌, ap}
 use Rattle.std.specs.Option.{is_some}
-use Rattle.plain_data.specs.Pairs.{lookup, with, without, InOrder}
+use Rattle.plain_data.specs.Pairs.{lookup, InOrder}
 use Rattle.plain_data.specs.Agreements.{AgreeOutside}
 use Rattle.plain_data.proofs.Agreements.{same_from_lookups}
 use Rattle.plain_data.proofs.At.{in_order_with, in_order_without}

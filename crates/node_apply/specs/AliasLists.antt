@@ -1,7 +1,7 @@
 -- The names of the indices that have an alias, as an applier lists them: an alias that no index has isn't listed. And the
 -- aliases at which the lists of two states may differ: those that an index of a name that may have changed has in either.
 -- That an applier keeps these lists is this project's own.
-use Rattle.std.specs.Prelude.{ℕ, List, [], ◌∷◌, Option, Some, None, map}
+use Rattle.std.specs.Prelude.{ℕ, List, [], ◌∷◌, Option, Some, None}
 use Rattle.std.specs.List.{AllByRecursion}
 use Rattle.plain_data.specs.Agreements.{with_all}
 use Rattle.plain_data.specs.Pairs.{InOrder}
@@ -30,7 +30,3 @@ AreSetsInOrder indices = AllByRecursion (λ p. InOrder p.1.aliases) indices
 -- the same of the indices of some names
 abbrev pub AreInOrderAt : List (List ℕ × IndexMetadata) → List (List ℕ × Unit {0}) → Type 0
 AreInOrderAt indices names = AllByRecursion (λ p. InOrder (aliases_at p.0 indices)) names
-
--- the names of indices as a set
-abbrev pub names_in : List (List ℕ × IndexMetadata) → List (List ℕ × Unit {0})
-names_in indices = map (λ p. (p.0, tt)) indices

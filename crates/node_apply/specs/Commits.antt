@@ -1,7 +1,7 @@
 -- Commits on their way to a node: the states that it is handed, each with the number of the publication to this node, and
 -- with what may have changed since the commit before. That what may have changed goes with a commit, so that a node's
 -- apply costs what changed, is this project's own.
-use Rattle.std.specs.Prelude.{◌≡◌, ℕ, List, [], ◌∷◌, Option, Some, None, map}
+use Rattle.std.specs.Prelude.{ℕ, List, [], ◌∷◌, Option, Some, None, map}
 use Rattle.meta_state.specs.declared.cluster_state.ClusterState.{ClusterState}
 use Rattle.meta_state.specs.declared.touches.Touched.{Touched}
 use Rattle.meta_state.specs.Touches.{AgreeOutside, touched_by_both}

@@ -1,6 +1,6 @@
 -- What an applier keeps: its view, what it has prepared, and which version was applied as it last took a state over. That
 -- an apply has two steps, of which only the first takes memory, is this project's own.
-use Rattle.std.specs.Prelude.{◌≡◌, ℕ, Option, Some, None, unwrap_or}
+use Rattle.std.specs.Prelude.{ℕ, Option, None, unwrap_or}
 use Rattle.meta_state.specs.declared.cluster_state.ClusterState.{ClusterState}
 
 pub record Kept (A : Type 0) : Type 0 where

@@ -1,15 +1,13 @@
 -- The link to a node that applies: what it carries, how it follows a script, and the commits that it was handed and didn't
--- pass on yet. A publication is counted where a message leads to another state than the last one; at its faults, which a
--- script lists by these counts, a message isn't received, or a commit isn't handed. All of it is this project's own.
-use Rattle.std.specs.Prelude.{◌≡◌, ◌==◌, ◌&&◌, ℕ, Bool, true, false, not, List, [], ◌∷◌, ◌++◌, Option, Some, None, map, nat_eq, bytes_eq, if◌then◌else◌}
+-- pass on yet, as a session's law has them. At its faults, which a script lists by the count of publications, a message
+-- isn't received, or a commit isn't handed. All of it is this project's own.
+use Rattle.std.specs.Prelude.{◌≡◌, ◌==◌, ◌&&◌, ℕ, Bool, true, false, not, List, [], ◌∷◌, Option, Some, None, bytes_eq, if◌then◌else◌}
 use Rattle.std.specs.List.{list_any}
-use Rattle.edge_io.specs.Causes.{counted_up}
 use Rattle.meta_state.specs.declared.cluster_state.ClusterState.{ClusterState}
 use Rattle.meta_state.specs.Touches.{touched_by_both}
 use Rattle.publication.specs.declared.messages.Message.{Message}
 use Rattle.publication.specs.declared.messages.Message.TheVariants.{Full, Diff}
-use Rattle.publication.specs.LinkMeanings.{LinkMeaning, ScriptMeaning, ScriptedFault, after_hand}
-use Rattle.publication.specs.Messages.{target_id}
+use Rattle.publication.specs.LinkMeanings.{LinkMeaning, ScriptMeaning, ScriptedFault, after_hand, after_noted}
 use Rattle.scripts.specs.declared.faults.Fault.{Fault}
 use Rattle.scripts.specs.declared.faults.FaultKind.{FaultKind}
 use Rattle.scripts.specs.declared.faults.FaultKind.TheVariants as kind
@@ -54,15 +52,10 @@ is_lost _ = false
 
 -- ---- a link
 
--- what any link means, the commits that weren't passed on, the state of the last one that was, where it is known, the faults
--- that the script lists, the identifier to which the last message led, and how many publications were sent
+-- what any link means, and the faults that the script lists
 pub record NodeLinkView : Type 0 where
   pub meaning : LinkMeaning
-  pub commits : List Commit
-  pub base : Option ClusterState
   pub failing : List Fault
-  pub last : Option ℕ
-  pub publications : ℕ
 
 abbrev pub new_node_link : List ℕ → ClusterState → ℕ → List Fault → NodeLinkView
 new_node_link name held room failing = record {
@@ -74,50 +67,49 @@ new_node_link name held room failing = record {
     room = room;
     faults = 0;
     reliable = not (list_any (cuts_node name) failing);
+    last = None;
+    sent = 0;
+    numbers = [];
+    base = None;
   };
-  commits = [];
-  base = None;
   failing = failing;
-  last = None;
-  publications = 0;
 }
 
 -- how it follows the script: it is steady
 abbrev pub script_of : NodeLinkView → ScriptMeaning
 script_of link = record {
-  last = link.last;
-  publications = link.publications;
+  last = link.meaning.last;
+  publications = link.meaning.sent;
   fault_at = λ count. scripted (fault_on link.failing link.meaning.name count);
-  numbers = map (λ c. c.publication) link.commits;
+  numbers = link.meaning.numbers;
   strays = 0;
   carries = λ message. true;
   steady = true;
 }
 
-abbrev pub is_last : Option ℕ → ℕ → Bool
-is_last None id = false
-is_last (Some last) id = last == id
-
--- the count of publications with a message that leads to a state of this identifier
-abbrev pub count_with : ℕ → NodeLinkView → ℕ
-count_with id link = if is_last link.last id then link.publications else counted_up link.publications
-
--- a link with a message noted
+-- a link with a message noted that leads to a state of this identifier
 abbrev pub noted : ℕ → NodeLinkView → NodeLinkView
-noted id link = record link { last = Some id; publications = count_with id link }
+noted id link = record link { meaning = after_noted id link.meaning link.meaning.faults }
 
 -- the fault at the count of publications
 abbrev pub fault_now : NodeLinkView → Option FaultKind
-fault_now link = fault_on link.failing link.meaning.name link.publications
+fault_now link = fault_on link.failing link.meaning.name link.meaning.sent
 
 -- a link whose node was handed the state that it holds
 abbrev pub handed_over : NodeLinkView → NodeLinkView
-handed_over link = record link {
-  meaning = after_hand link.meaning link.meaning.faults;
-  commits = link.commits ++ record { state = link.meaning.held; publication = link.publications } ∷ [];
-}
+handed_over link = record link { meaning = after_hand link.meaning link.meaning.faults }
 
 -- ---- what was passed on
+
+-- commits of these states, by the publications of these numbers
+abbrev pub commits_told : List ClusterState → List ℕ → List Commit
+commits_told [] numbers = []
+commits_told (state ∷ states) [] = []
+commits_told (state ∷ states) (number ∷ numbers) = record { state = state; publication = number } ∷ commits_told states numbers
+
+-- the commits that the node was handed and that weren't passed on
+abbrev pub told : LinkMeaning → List Commit
+told link = commits_told link.handed link.numbers
 
 abbrev pub last_commit : Option ClusterState → List Commit → Option ClusterState
 last_commit base [] = base
@@ -126,9 +118,7 @@ last_commit base (commit ∷ commits) = last_commit (Some commit.state) commits
 -- a link whose commits were passed on: it means all else that it meant
 abbrev pub passed : NodeLinkView → NodeLinkView
 passed link = record link {
-  meaning = record link.meaning { handed = [] };
-  commits = [];
-  base = last_commit link.base link.commits;
+  meaning = record link.meaning { handed = []; numbers = []; base = last_commit link.meaning.base (told link.meaning) };
 }
 
 -- ---- what may have changed since the last commit

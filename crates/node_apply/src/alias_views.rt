@@ -3,11 +3,14 @@ ghost use Rattle.plain_data.specs.Agreements.{AgreeOutside, with_all};
 ghost use Rattle.plain_data.specs.Pairs.{InOrder};
 ghost use Rattle.meta_state.specs.Tables.{aliases_at};
 ghost use Rattle.session_law.specs.Views.{with_aliases_of_all};
-ghost use Rattle.node_apply.specs.AliasLists.{AreInOrderAt, AreSetsInOrder, aliases_among, list_of, names_in, some_names};
+ghost use Rattle.node_apply.specs.AliasLists.{AreInOrderAt, AreSetsInOrder, aliases_among, list_of, some_names};
+ghost use Rattle.node_apply.specs.TouchedNames.{with_names_of};
 ghost use Rattle.node_apply.specs.Updated.{updated, updated_at};
 
 use crate::appliers::Applier;
 use crate::changed_events::ChangedEvent;
+use crate::putting::put;
+use crate::touched_names::names_of;
 use crate::updates::update;
 use meta_state::{ClusterState, IndexTable};
 use plain_data::{Items, Map, NameSet, OutOfMemory, Text};
@@ -94,11 +97,12 @@ impl Applier for AliasView {
         ensures sets { OnOk result (AreSetsInOrder event.now.new.metadata.indices) }
         ensures err { OnErr result (self.new.next ≡ None) }
     {
-        self.next = None;
+        put(&mut self.next, None);
         let old = &event.old_state().metadata.indices;
         let new = &event.new_state().metadata.indices;
         let names = &event.touched().indices;
-        self.next = Some(lists_after(self.alloc, &self.shown, old, new, names)?);
+        let next = lists_after(self.alloc, &self.shown, old, new, names)?;
+        put(&mut self.next, Some(next));
         Ok(())
     }
 
@@ -113,30 +117,32 @@ impl Applier for AliasView {
     }
 }
 
-// The lists of indices: those of no indices, of which all may have changed.
-#[tactic(auto, using(crate::proofs::AliasListing::agree_outside_all))]
+// The lists of indices: those of no indices, with what all say.
+#[tactic(auto, using(crate::proofs::AliasListing::lists_from_none, crate::proofs::AliasListing::sets_from_all))]
 fn lists_of(alloc: Global, indices: &IndexTable) -> Result<Map<Items<Text>>, OutOfMemory>
     ensures lists { IfOk result (λ made. made ≡ with_aliases_of_all indices.now []) }
     ensures sets { OnOk result (AreSetsInOrder indices.now) }
 {
-    let names = all_names(alloc, indices)?;
-    lists_after(
-        alloc,
-        &Map::new(alloc),
-        &IndexTable::new(alloc),
-        indices,
-        &names,
-    )
+    // The names stand in order.
+    let _ = indices.len();
+    let aliases = all_aliases(alloc, indices)?;
+    updated_lists(alloc, &Map::new(alloc), indices, &aliases)
 }
 
-// The names of indices. Outside of them there are none.
-fn all_names(alloc: Global, indices: &IndexTable) -> Result<NameSet, OutOfMemory>
-    ensures { IfOk result (λ made. made ≡ with_all (names_in indices.now) []) }
+fn all_aliases(alloc: Global, indices: &IndexTable) -> Result<NameSet, OutOfMemory>
+    ensures all { IfOk result (λ made. made ≡ aliases_among indices.now (with_names_of indices.now []) []) }
+    ensures sets { OnOk result (AreInOrderAt indices.now (with_names_of indices.now [])) }
+{
+    let names = names_of(alloc, indices.by_name())?;
+    aliases_of(alloc, indices, &names)
+}
+
+fn aliases_of(alloc: Global, indices: &IndexTable, names: &NameSet) -> Result<NameSet, OutOfMemory>
+    ensures all { IfOk result (λ made. made ≡ aliases_among indices.now names.now []) }
+    ensures sets { OnOk result (AreInOrderAt indices.now names.now) }
 {
     let mut made = NameSet::new(alloc);
-    for (name, _) in indices.iter() {
-        made.insert(name.copy()?)?;
-    }
+    put_aliases(&mut made, indices, names)?;
     Ok(made)
 }
 
@@ -157,25 +163,34 @@ fn lists_after(
 {
     // The names of both stand in order.
     let _ = (old.len(), new.len());
-    let aliases = put_aliases(old, names, NameSet::new(alloc))?;
-    let aliases = put_aliases(new, names, aliases)?;
+    let aliases = aliases_of_both(alloc, old, new, names)?;
     updated_lists(alloc, before, new, &aliases)
 }
 
-// Puts the aliases of the indices of some names into others.
-fn put_aliases(
-    indices: &IndexTable,
+// The aliases that the indices of some names have in either.
+fn aliases_of_both(
+    alloc: Global,
+    old: &IndexTable,
+    new: &IndexTable,
     names: &NameSet,
-    aliases: NameSet,
 ) -> Result<NameSet, OutOfMemory>
-    ensures all { IfOk result (λ made. made ≡ aliases_among indices.now names.now aliases) }
+    ensures all { IfOk result (λ made. made ≡ aliases_among new.now names.now (aliases_among old.now names.now [])) }
+    ensures sets { OnOk result (AreInOrderAt new.now names.now) }
+{
+    let mut made = aliases_of(alloc, old, names)?;
+    put_aliases(&mut made, new, names)?;
+    Ok(made)
+}
+
+// Puts the aliases of the indices of some names into others.
+fn put_aliases(made: &mut NameSet, indices: &IndexTable, names: &NameSet) -> Result<(), OutOfMemory>
+    ensures all { OnOk result (made.new ≡ aliases_among indices.now names.now made.old) }
     ensures sets { OnOk result (AreInOrderAt indices.now names.now) }
 {
-    let mut made = aliases;
     for name in names.iter() {
-        put_aliases_at(&mut made, indices, name)?;
+        put_aliases_at(made, indices, name)?;
     }
-    Ok(made)
+    Ok(())
 }
 
 #[tactic(auto, using(plain_data::proofs::At::in_order_empty))]
@@ -203,10 +218,22 @@ fn updated_lists(
     ensures { IfOk result (λ made. made ≡ updated (list_of indices.now) aliases.now before.now) }
 {
     let mut made = before.copy()?;
-    for alias in aliases.iter() {
-        update_list(alloc, &mut made, indices, alias)?;
-    }
+    update_lists(alloc, &mut made, indices, aliases)?;
     Ok(made)
+}
+
+fn update_lists(
+    alloc: Global,
+    made: &mut Map<Items<Text>>,
+    indices: &IndexTable,
+    aliases: &NameSet,
+) -> Result<(), OutOfMemory>
+    ensures { OnOk result (made.new ≡ updated (list_of indices.now) aliases.now made.old) }
+{
+    for alias in aliases.iter() {
+        update_list(alloc, made, indices, alias)?;
+    }
+    Ok(())
 }
 
 fn update_list(

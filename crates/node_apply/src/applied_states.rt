@@ -8,11 +8,13 @@ use crate::alias_views::AliasView;
 use crate::appliers::Applier;
 use crate::changed_events::ChangedEvent;
 use crate::index_views::IndexView;
+use crate::putting::{all_three, both, put};
 use crate::settings_views::SettingsView;
 use meta_state::{ClusterState, Touched};
 use plain_data::OutOfMemory;
 use session_law::View;
 use std::alloc::Global;
+use std::mem;
 
 /// The state that a node has applied, and what its appliers keep of it.
 #[derive(Drop)]
@@ -37,9 +39,12 @@ pub(crate) fn first_applied(alloc: Global, state: ClusterState) -> Result<Applie
     ensures state { IfOk result (λ made. made.state ≡ state) }
     ensures at { IfOk result IsAt }
 {
-    let settings = SettingsView::of(&state)?;
-    let indices = IndexView::of(alloc, &state)?;
-    let aliases = AliasView::of(alloc, &state)?;
+    let views = all_three(
+        SettingsView::of(&state),
+        IndexView::of(alloc, &state),
+        AliasView::of(alloc, &state),
+    );
+    let (state, (settings, indices, aliases)) = both(Ok(state), views)?;
     Ok(Applied {
         state,
         settings,
@@ -78,7 +83,7 @@ pub(crate) fn commit_all(applied: &mut Applied, new: ClusterState) -> Phases
     applied.settings.commit(applied.state.version);
     applied.indices.commit(applied.state.version);
     applied.aliases.commit(applied.state.version);
-    applied.state = new;
+    put(&mut applied.state, new);
     Phases {
         high: applied.settings.seen(),
         normal: applied.indices.seen(),
@@ -94,11 +99,12 @@ pub(crate) fn into_view(applied: Applied) -> View
     ensures { result ≡ views_of applied.state }
 {
     let Applied {
+        state,
         settings,
         indices,
         aliases,
-        ..
     } = applied;
+    mem::drop(state);
     View {
         aliases: aliases.into_names(),
         indices: indices.into_ids(),

@@ -1,11 +1,11 @@
 ghost use Rattle.std.specs.Prelude.{◌≡◌, IfOk, OnOk};
 ghost use Rattle.std.specs.Option.{option_copied};
 ghost use Rattle.plain_data.specs.Agreements.{AgreeOutside};
-ghost use Rattle.plain_data.specs.Pairs.{lookup};
 ghost use Rattle.session_law.specs.Changes.{change_between, changed_settings, changed_since, is_changed_index, is_same_index, is_same_value, lacking, unknown_to};
-ghost use Rattle.node_apply.specs.ListedNames.{is_changed, is_lacking, is_other_value, is_unknown, listed, names_at};
+ghost use Rattle.node_apply.specs.ListedNames.{listed, names_at};
 
 use crate::changed_events::ChangedEvent;
+use crate::putting::{all_three, both};
 use meta_state::{IndexMetadata, IndexTable, NodeInfo};
 use plain_data::{Items, Map, NameSet, OutOfMemory, Text};
 use session_law::Change;
@@ -19,13 +19,24 @@ pub(crate) fn change_of(alloc: Global, event: &ChangedEvent<'_>) -> Result<Chang
 {
     let (old, new, touched) = (event.old_state(), event.new_state(), event.touched());
     let (before, after) = (&old.metadata, &new.metadata);
+    let of_indices = all_three(
+        lacking(alloc, &before.indices, &after.indices, &touched.indices),
+        lacking(alloc, &after.indices, &before.indices, &touched.indices),
+        changed_since(alloc, &before.indices, &after.indices, &touched.indices),
+    );
+    let of_others = all_three(
+        unknown_to(alloc, &old.nodes, &new.nodes, &touched.nodes),
+        unknown_to(alloc, &new.nodes, &old.nodes, &touched.nodes),
+        changed_settings(alloc, &before.settings, &after.settings, &touched.settings),
+    );
+    let ((created, deleted, changed), (joined, left, settings)) = both(of_indices, of_others)?;
     Ok(Change {
-        created: lacking(alloc, &before.indices, &after.indices, &touched.indices)?,
-        deleted: lacking(alloc, &after.indices, &before.indices, &touched.indices)?,
-        changed: changed_since(alloc, &before.indices, &after.indices, &touched.indices)?,
-        joined: unknown_to(alloc, &old.nodes, &new.nodes, &touched.nodes)?,
-        left: unknown_to(alloc, &new.nodes, &old.nodes, &touched.nodes)?,
-        settings: changed_settings(alloc, &before.settings, &after.settings, &touched.settings)?,
+        created,
+        deleted,
+        changed,
+        joined,
+        left,
+        settings,
     })
 }
 
@@ -42,7 +53,7 @@ fn lacking(
 {
     // The names of all stand in order.
     let _ = (indices.len(), names.len());
-    lacking_at(alloc, others, indices, names)
+    names_at::<_, IsLacking>(alloc, others.by_name(), indices.by_name(), names)
 }
 
 // The names of the indices that have other contents under the same name and identifier.
@@ -57,7 +68,7 @@ fn changed_since(
     ensures { IfOk result (λ made. made ≡ changed_since others.now indices.now) }
 {
     let _ = (indices.len(), names.len());
-    changed_at(alloc, others, indices, names)
+    names_at::<_, IsChanged>(alloc, others.by_name(), indices.by_name(), names)
 }
 
 // The names of the nodes that the others don't have.
@@ -72,7 +83,7 @@ fn unknown_to(
     ensures { IfOk result (λ made. made ≡ unknown_to others.now nodes.now) }
 {
     let _ = (nodes.len(), names.len());
-    unknown_at(alloc, others, nodes, names)
+    names_at::<_, IsUnknown>(alloc, others, nodes, names)
 }
 
 // The keys of the settings that were added, removed or changed.
@@ -87,75 +98,33 @@ fn changed_settings(
     ensures { IfOk result (λ made. made ≡ changed_settings old.now new.now) }
 {
     let _ = (new.len(), keys.len());
-    settings_at(alloc, old, new, keys)
+    names_at::<_, IsOtherValue>(alloc, old, new, keys)
 }
 
-// ---- walks over names
+// ---- the walk over names
 
-fn lacking_at(
+// Which names belong to a list of what changed: those at which what the others and these have passes a test.
+trait Listing<V> {
+    ghost use Rattle.std.specs.Prelude.{◌≡◌, Bool, Option};
+    ghost use Rattle.std.specs.Option.{option_copied};
+
+    ghost passes: { Option V → Option V → Bool };
+
+    fn passes(other: Option<&V>, own: Option<&V>) -> bool
+        ensures { result ≡ passes (option_copied other.entry) (option_copied own.entry) };
+}
+
+fn names_at<V, L: Listing<V>>(
     alloc: Global,
-    others: &IndexTable,
-    indices: &IndexTable,
+    others: &Map<V>,
+    own: &Map<V>,
     names: &NameSet,
 ) -> Result<Items<Text>, OutOfMemory>
-    ensures { IfOk result (λ made. made ≡ names_at is_lacking others.now indices.now names.now) }
+    ensures { IfOk result (λ made. made ≡ names_at L.passes others.now own.now names.now) }
 {
     let mut made = Items::new(alloc);
     for name in names.iter() {
-        list(
-            &mut made,
-            name,
-            is_lacking(others.get(name), indices.get(name)),
-        )?;
-    }
-    Ok(made)
-}
-
-fn changed_at(
-    alloc: Global,
-    others: &IndexTable,
-    indices: &IndexTable,
-    names: &NameSet,
-) -> Result<Items<Text>, OutOfMemory>
-    ensures { IfOk result (λ made. made ≡ names_at is_changed others.now indices.now names.now) }
-{
-    let mut made = Items::new(alloc);
-    for name in names.iter() {
-        list(
-            &mut made,
-            name,
-            is_changed(others.get(name), indices.get(name)),
-        )?;
-    }
-    Ok(made)
-}
-
-fn unknown_at(
-    alloc: Global,
-    others: &Map<NodeInfo>,
-    nodes: &Map<NodeInfo>,
-    names: &NameSet,
-) -> Result<Items<Text>, OutOfMemory>
-    ensures { IfOk result (λ made. made ≡ names_at is_unknown others.now nodes.now names.now) }
-{
-    let mut made = Items::new(alloc);
-    for name in names.iter() {
-        list(&mut made, name, is_unknown(others, nodes, name))?;
-    }
-    Ok(made)
-}
-
-fn settings_at(
-    alloc: Global,
-    old: &Map<Text>,
-    new: &Map<Text>,
-    keys: &NameSet,
-) -> Result<Items<Text>, OutOfMemory>
-    ensures { IfOk result (λ made. made ≡ names_at is_other_value old.now new.now keys.now) }
-{
-    let mut made = Items::new(alloc);
-    for key in keys.iter() {
-        list(&mut made, key, !is_same_value(old.get(key), new.get(key)))?;
+        list(&mut made, name, L::passes(others.get(name), own.get(name)))?;
     }
     Ok(made)
 }
@@ -172,21 +141,61 @@ fn list(made: &mut Items<Text>, name: &Text, is_listed: bool) -> Result<(), OutO
 
 // ---- one name
 
-fn is_lacking(other: Option<&IndexMetadata>, index: Option<&IndexMetadata>) -> bool
-    ensures { result ≡ is_lacking (option_copied other.entry) (option_copied index.entry) }
-{
-    match index {
-        None => false,
-        Some(index) => !is_same_index(index, other),
+// An index whose name and identifier the others lack.
+struct IsLacking;
+
+impl Listing<IndexMetadata> for IsLacking {
+    ghost use Rattle.node_apply.specs.ListedNames.{is_lacking};
+
+    ghost passes = { is_lacking };
+
+    fn passes(other: Option<&IndexMetadata>, own: Option<&IndexMetadata>) -> bool {
+        match own {
+            None => false,
+            Some(index) => !is_same_index(index, other),
+        }
     }
 }
 
-fn is_changed(other: Option<&IndexMetadata>, index: Option<&IndexMetadata>) -> bool
-    ensures { result ≡ is_changed (option_copied other.entry) (option_copied index.entry) }
-{
-    match index {
-        None => false,
-        Some(index) => is_changed_index(index, other),
+// An index that has other contents under the same name and identifier.
+struct IsChanged;
+
+impl Listing<IndexMetadata> for IsChanged {
+    ghost use Rattle.node_apply.specs.ListedNames.{is_changed};
+
+    ghost passes = { is_changed };
+
+    fn passes(other: Option<&IndexMetadata>, own: Option<&IndexMetadata>) -> bool {
+        match own {
+            None => false,
+            Some(index) => is_changed_index(index, other),
+        }
+    }
+}
+
+// A node that the others don't have.
+struct IsUnknown;
+
+impl Listing<NodeInfo> for IsUnknown {
+    ghost use Rattle.node_apply.specs.ListedNames.{is_unknown};
+
+    ghost passes = { is_unknown };
+
+    fn passes(other: Option<&NodeInfo>, own: Option<&NodeInfo>) -> bool {
+        own.is_some() && other.is_none()
+    }
+}
+
+// A setting that was added, removed or changed.
+struct IsOtherValue;
+
+impl Listing<Text> for IsOtherValue {
+    ghost use Rattle.node_apply.specs.ListedNames.{is_other_value};
+
+    ghost passes = { is_other_value };
+
+    fn passes(other: Option<&Text>, own: Option<&Text>) -> bool {
+        !is_same_value(other, own)
     }
 }
 
@@ -205,15 +214,6 @@ fn is_changed_index(index: &IndexMetadata, other: Option<&IndexMetadata>) -> boo
     match other {
         None => false,
         Some(other) => index.id == other.id && index != other,
-    }
-}
-
-fn is_unknown(others: &Map<NodeInfo>, nodes: &Map<NodeInfo>, name: &Text) -> bool
-    ensures { result ≡ is_unknown (lookup name.now others.now) (lookup name.now nodes.now) }
-{
-    match nodes.get(name) {
-        None => false,
-        Some(_) => !others.contains_key(name),
     }
 }
 

@@ -2,11 +2,13 @@ ghost use Rattle.std.specs.Prelude.{◌≡◌, ◌<◌, ◌^◌, [], ◌∷◌, 
 ghost use Rattle.std.specs.Option.{option_copied};
 ghost use Rattle.node_apply.specs.Commits.{first_unknown, last_state, versions_of};
 
+use crate::putting::put;
 use meta_state::{ClusterState, Touched};
 use plain_data::OutOfMemory;
 use std::alloc::Global;
 use std::collections::VecDeque;
 use std::marker::Model;
+use std::mem;
 
 /// A state that was committed, as a node is handed it.
 #[derive(Drop)]
@@ -75,7 +77,8 @@ impl Commit {
     pub(crate) fn into_state(self) -> ClusterState
         ensures { result ≡ self.state }
     {
-        let Commit { state, .. } = self;
+        let Commit { state, since, .. } = self;
+        mem::drop(since);
         state
     }
 }
@@ -173,8 +176,9 @@ impl CommitStart {
     pub(crate) fn forget_first(&mut self)
         ensures { self.new ≡ record self.old { commits = first_unknown self.old.commits } }
     {
-        if let Some(first) = self.commits.pop_front() {
-            self.commits.push_front_reserved(untold(first));
+        if let Some(mut first) = self.commits.pop_front() {
+            put(&mut first.since, None);
+            self.commits.push_front_reserved(first);
         }
     }
 }
@@ -187,22 +191,6 @@ fn list_versions(alloc: Global, commits: &VecDeque<Commit>) -> Result<Vec<u64>, 
         made.push(commit.version())?;
     }
     Ok(made)
-}
-
-// The commit, which doesn't tell what changed.
-fn untold(commit: Commit) -> Commit
-    ensures { result ≡ record commit { since = None } }
-{
-    let Commit {
-        state,
-        publication,
-        ..
-    } = commit;
-    Commit {
-        state,
-        publication,
-        since: None,
-    }
 }
 
 impl CommitEnd {

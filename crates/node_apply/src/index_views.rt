@@ -5,6 +5,7 @@ ghost use Rattle.node_apply.specs.Updated.{updated};
 
 use crate::appliers::Applier;
 use crate::changed_events::ChangedEvent;
+use crate::putting::put;
 use crate::updates::update;
 use meta_state::{ClusterState, IndexTable};
 use plain_data::{Map, NameSet, OutOfMemory, Text};
@@ -86,11 +87,12 @@ impl Applier for IndexView {
         ensures ok { OnOk result (self.new.next ≡ Some (ids_of event.now.new)) }
         ensures err { OnErr result (self.new.next ≡ None) }
     {
-        self.next = None;
+        put(&mut self.next, None);
         let old = &event.old_state().metadata.indices;
         let new = &event.new_state().metadata.indices;
         let names = &event.touched().indices;
-        self.next = Some(ids_after(&self.shown, old, new, names)?);
+        let next = ids_after(&self.shown, old, new, names)?;
+        put(&mut self.next, Some(next));
         Ok(())
     }
 
@@ -120,7 +122,7 @@ fn ids_put(alloc: Global, indices: &IndexTable) -> Result<Map<u64>, OutOfMemory>
 {
     let mut made = Map::new(alloc);
     for (name, index) in indices.iter() {
-        made.set(name.copy()?, index.id)?;
+        update(&mut made, name, Some(index.id))?;
     }
     Ok(made)
 }

@@ -13,6 +13,7 @@ mod node_appliers;
 mod node_links;
 mod outcomes;
 mod preparing;
+mod putting;
 mod settings_views;
 mod sinces;
 mod touched_names;

@@ -9,11 +9,13 @@ use crate::applied_states::{Applied, commit_all, first_applied, into_view};
 use crate::commits::{CommitEnd, CommitStart};
 use crate::outcomes::ApplyOutcome;
 use crate::preparing::{prepare_first, touched_before};
+use crate::putting::put;
 use meta_state::{ClusterState, Touched};
 use plain_data::{Items, OutOfMemory, Text};
 use session_law::{Apply, ApplyEnd, Change, NodeRec};
 use std::alloc::Global;
 use std::marker::Model;
+use std::mem;
 
 /// A node as it applies, in order, the commits that it is handed (Elasticsearch's `ClusterApplierService`), and keeps a
 /// record of it.
@@ -132,24 +134,23 @@ impl NodeApplier {
     }
 
     // Takes the next commit, whose apply fails.
-    #[tactic(auto, using(crate::proofs::Tying::failed_is, crate::proofs::Tying::tied_failed))]
+    #[tactic(auto, using(crate::proofs::Tying::failed_is))]
     fn fail_next(&mut self) -> Result<ApplyOutcome, OutOfMemory>
+        requires { fails_next self.old ≡ true }
         ensures ok { IfOk result (λ outcome. (outcome, self.new) ≡ next_of true self.old self.old.waiting) }
         ensures err { OnErr result (self.new ≡ self.old) }
     {
         self.applies.reserve(1)?;
         let behind = behind_next(self.alloc, &self.behind, &self.commits)?;
-        match self.commits.take_first() {
-            None => Ok(ApplyOutcome::None),
-            Some(commit) => {
-                let version = commit.version();
-                let line = failed_line(self.applied.state.version, version);
-                self.applies.push_reserved(line);
-                self.missed = Some(commit.into_state());
-                self.behind = behind;
-                Ok(ApplyOutcome::FailedByScript { version })
-            }
-        }
+        let Some(commit) = self.commits.take_first() else {
+            unreachable!()
+        };
+        let version = commit.version();
+        let line = failed_line(self.applied.state.version, version);
+        self.applies.push_reserved(line);
+        put(&mut self.missed, Some(commit.into_state()));
+        put(&mut self.behind, behind);
+        Ok(ApplyOutcome::FailedByScript { version })
     }
 
     // Takes the next commit, and applies it.
@@ -176,8 +177,8 @@ impl NodeApplier {
         let line = apply_line(&mut self.applied, commit.into_state(), change);
         self.applies.push_reserved(line);
         self.place += 1;
-        self.missed = None;
-        self.behind = Some(Touched::none(self.alloc));
+        put(&mut self.missed, None);
+        put(&mut self.behind, Some(Touched::none(self.alloc)));
         Ok(ApplyOutcome::Applied { version })
     }
 
@@ -208,10 +209,13 @@ impl NodeApplier {
             node,
             first,
             applied,
+            missed,
+            behind,
             handed,
             applies,
             ..
         } = self;
+        mem::drop((missed, behind));
         NodeRec {
             node,
             handed: Items::from_vec(handed),

@@ -1,11 +1,15 @@
-ghost use Rattle.std.specs.Prelude.{◌≡◌, [], Some, OnOk, OnErr};
+ghost use Rattle.std.specs.Prelude.{◌≡◌, ◌||◌, ◌⊎◌, [], None, Option, Some, is_some, IfOk, IfSome, OnOk, OnErr};
 ghost use Rattle.std.specs.Option.{option_or};
+ghost use Rattle.meta_state.specs.declared.cluster_state.ClusterState.{ClusterState};
+ghost use Rattle.publication.specs.LinkMeanings.{is_last};
+ghost use Rattle.publication.specs.Messages.{is_accepted, received, AcceptsTarget};
 ghost use Rattle.node_apply.specs.Applying.{last_of_node, passed_on};
 ghost use Rattle.node_apply.specs.Commits.{AreLinked, commits_of, last_state};
-ghost use Rattle.node_apply.specs.NodeLinks.{cuts, cuts_at, fault_on, is_last};
+ghost use Rattle.node_apply.specs.NodeLinks.{IsSince, cuts, cuts_at, fault_on};
 
 use crate::commits::{Commit, CommitStart};
 use crate::node_appliers::NodeApplier;
+use crate::putting::put;
 use crate::sinces::{Since, take_message, told};
 use meta_state::ClusterState;
 use plain_data::{OutOfMemory, Text};
@@ -31,26 +35,35 @@ pub struct NodeLink {
     base: Option<ClusterState>,
     since: Since,
     failing: Vec<Fault>,
+
+    // The identifier of the state to which the last message led, and how many publications were sent.
     last: Option<u64>,
-    publications: u64,
+    sent: u64,
     faults: u64,
 }
 
 impl Model for NodeLink {
     ghost use Rattle.std.specs.Prelude.{◌≡◌, not, is_some, map, IfSome};
     ghost use Rattle.std.specs.List.{list_any};
-    ghost use Rattle.node_apply.specs.Commits.{commits_of};
     ghost use Rattle.node_apply.specs.NodeLinks.{IsTiedLink, NodeLinkView, cuts_node};
 
     ghost Value = { NodeLinkView };
 
     ghost view = { λ l. record {
-      meaning = record { name = l.node; held = l.replica; ready = is_some l.waiting; handed = map (λ c. c.state) l.commits.commits; room = l.commits.room; faults = l.faults; reliable = not (list_any (cuts_node l.node) l.failing.items) };
-      commits = commits_of l.commits.commits;
-      base = l.base;
+      meaning = record {
+        name = l.node;
+        held = l.replica;
+        ready = is_some l.waiting;
+        handed = map (λ c. c.state) l.commits.commits;
+        room = l.commits.room;
+        faults = l.faults;
+        reliable = not (list_any (cuts_node l.node) l.failing.items);
+        last = l.last;
+        sent = l.sent;
+        numbers = map (λ c. c.publication) l.commits.commits;
+        base = l.base;
+      };
       failing = l.failing.items;
-      last = l.last;
-      publications = l.publications;
     } };
 
     ghost invariant = { λ l. IsTiedLink l.base l.commits.commits l.since l.replica × IfSome l.waiting (λ waiting. waiting ≡ l.replica) };
@@ -61,7 +74,7 @@ impl NodeLink {
     ghost use Rattle.edge_io.specs.Causes.{counted_up};
     ghost use Rattle.meta_state.specs.declared.cluster_state.ClusterState.{ClusterState};
     ghost use Rattle.node_apply.specs.Applying.{last_of_node, passed_on};
-    ghost use Rattle.node_apply.specs.NodeLinks.{fault_now, is_lost, is_unreachable, new_node_link, noted, passed};
+    ghost use Rattle.node_apply.specs.NodeLinks.{fault_now, is_lost, is_unreachable, new_node_link, noted, passed, told};
 
     /// A link to a node that holds what the replica holds, which hands commits at this end. It fails at the faults of the
     /// list that name its node.
@@ -85,7 +98,7 @@ impl NodeLink {
             since: Since::Unknown,
             failing,
             last: None,
-            publications: 0,
+            sent: 0,
             faults: 0,
         }
     }
@@ -112,10 +125,10 @@ impl NodeLink {
     }
 
     /// How many publications were sent to the node.
-    pub fn publications(&self) -> u64
-        ensures { result ≡ self.now.publications }
+    pub fn sent(&self) -> u64
+        ensures { result ≡ self.now.meaning.sent }
     {
-        self.publications
+        self.sent
     }
 
     /// Passes all commits that were handed to the node's applier, in order. What the first of them changed isn't told, so
@@ -123,7 +136,7 @@ impl NodeLink {
     #[tactic(auto, using(crate::proofs::Linking::linked_unknown, crate::proofs::Receiving::tied_passed, crate::proofs::Receiving::applier_passed))]
     pub fn pass(&mut self, applier: &mut NodeApplier) -> Result<(), OutOfMemory>
         requires { self.old.meaning.name ≡ applier.old.name }
-        ensures passed { OnOk result (applier.new ≡ passed_on self.old.commits applier.old) }
+        ensures passed { OnOk result (applier.new ≡ passed_on (told self.old.meaning) applier.old) }
         ensures link { OnOk result (self.new ≡ passed self.old) }
         ensures kept { OnErr result (applier.new ≡ applier.old) }
         ensures err { OnErr result (self.new ≡ self.old) }
@@ -134,11 +147,11 @@ impl NodeLink {
 
     /// The same to an applier which has the state of the last commit that was passed on as that of its last one, as it is
     /// where all were passed to it. So each apply costs what changed.
-    #[tactic(auto, using(crate::proofs::Receiving::linked_from, crate::proofs::Receiving::tied_passed_on))]
+    #[tactic(auto, using(crate::proofs::Receiving::linked_from, crate::proofs::Receiving::tied_passed_on, crate::proofs::Receiving::applier_told))]
     pub fn pass_next(&mut self, applier: &mut NodeApplier) -> Result<(), OutOfMemory>
         requires name { self.old.meaning.name ≡ applier.old.name }
-        requires base { (base : ClusterState) → self.old.base ≡ Some base → base ≡ last_of_node applier.old }
-        ensures passed { OnOk result (applier.new ≡ passed_on self.old.commits applier.old) }
+        requires base { (base : ClusterState) → self.old.meaning.base ≡ Some base → base ≡ last_of_node applier.old }
+        ensures passed { OnOk result (applier.new ≡ passed_on (told self.old.meaning) applier.old) }
         ensures link { OnOk result (self.new ≡ passed self.old) }
         ensures kept { OnErr result (applier.new ≡ applier.old) }
         ensures err { OnErr result (self.new ≡ self.old) }
@@ -151,7 +164,7 @@ impl NodeLink {
         ensures { self.new ≡ noted id self.old }
     {
         if !is_last(&self.last, id) {
-            self.publications = self.publications.saturating_add(1);
+            self.sent = self.sent.saturating_add(1);
         }
         self.last = Some(id);
     }
@@ -163,7 +176,7 @@ impl NodeLink {
         ensures can { IsTrue result → self.now.meaning.reliable ≡ false }
     {
         matches!(
-            fault_on(&self.failing, &self.node, self.publications),
+            fault_on(&self.failing, &self.node, self.sent),
             Some(FaultKind::Unreachable)
         )
     }
@@ -175,7 +188,7 @@ impl NodeLink {
         ensures can { IsTrue result → self.now.meaning.reliable ≡ false }
     {
         matches!(
-            fault_on(&self.failing, &self.node, self.publications),
+            fault_on(&self.failing, &self.node, self.sent),
             Some(FaultKind::LostCommit)
         )
     }
@@ -205,18 +218,24 @@ fn pass_on(
     ensures stays { OnErr result (base.new ≡ base.old) }
 {
     let last = commits.last(alloc)?;
-    applier.take_over(commits)?;
-    set_last(base, last);
-    Ok(())
+    let passed = applier.take_over(commits);
+    set_last(base, last, passed)
 }
 
-// The last state that is known, where one is.
-fn set_last(base: &mut Option<ClusterState>, last: Option<ClusterState>)
-    ensures { base.new ≡ option_or last base.old }
+// The last value that is known, where one is, after a step that was to be done before.
+fn set_last<T: Drop>(
+    base: &mut Option<T>,
+    last: Option<T>,
+    done: Result<(), OutOfMemory>,
+) -> Result<(), OutOfMemory>
+    ensures done { result ≡ done }
+    ensures ok { OnOk result (base.new ≡ option_or last base.old) }
+    ensures err { OnErr result (base.new ≡ base.old) }
 {
-    if last.is_some() {
+    if done.is_ok() && last.is_some() {
         *base = last;
     }
+    done
 }
 
 fn is_last(last: &Option<u64>, id: u64) -> bool
@@ -256,9 +275,47 @@ fn fault_on(failing: &[Fault], node: &Text, count: u64) -> Option<FaultKind>
     None
 }
 
+// Gives a node's replica a message, and tells on what may have changed. A copy of what it accepts waits to be handed.
+fn accept(
+    alloc: Global,
+    replica: &mut Replica,
+    since: &mut Since,
+    waiting: &mut Option<ClusterState>,
+    message: &Message,
+) -> Result<Receipt, OutOfMemory>
+    requires { IfSome waiting.old (λ waiting. waiting ≡ replica.old) }
+    ensures received { IfOk result (λ receipt. (receipt, replica.new) ≡ received replica.old message.now) }
+    ensures ready { IfOk result (λ receipt. is_some waiting.new ≡ (is_accepted receipt || is_some waiting.old)) }
+    ensures leads { IfOk result (λ receipt. AcceptsTarget receipt replica.new message.now) }
+    ensures waits { IfSome waiting.new (λ waiting. waiting ≡ replica.new) }
+    ensures since { (before : Option ClusterState) → IsSince since.old before replica.old → IsSince since.new before replica.new }
+    ensures err { OnErr result ((replica.new ≡ replica.old) ⊎ (replica.new ≡ (received replica.old message.now).1)) }
+{
+    let receipt = take_message(alloc, replica, since, message)?;
+    match receipt {
+        Receipt::Incompatible { .. } => {}
+        Receipt::Accepted => keep_copy(alloc, replica.state(), waiting)?,
+    }
+    Ok(receipt)
+}
+
+// A copy of a state waits, and no other.
+fn keep_copy(
+    alloc: Global,
+    state: &ClusterState,
+    waiting: &mut Option<ClusterState>,
+) -> Result<(), OutOfMemory>
+    ensures ok { OnOk result (waiting.new ≡ Some state.now) }
+    ensures err { OnErr result (waiting.new ≡ None) }
+{
+    put(waiting, None);
+    put(waiting, Some(state.copy(alloc)?));
+    Ok(())
+}
+
 impl Link for NodeLink {
     ghost use Rattle.std.specs.Prelude.{◌≡◌, ◌≤◌, ◌<◌, ◌^◌, Some, IfOk, IfErr, OnOk, OnErr, IsErrOf, IsTrue, ◌↔◌};
-    ghost use Rattle.publication.specs.LinkMeanings.{Fails, after_fault, after_hand, after_message, HoldsOldOrSent};
+    ghost use Rattle.publication.specs.LinkMeanings.{Fails, after_fault, after_hand, after_message, after_missed, sent_with, HoldsOldOrSent};
     ghost use Rattle.publication.specs.Messages.{received, target_id, AcceptsTarget};
     ghost use Rattle.session_law.specs.NodeRecords.{Commit};
     ghost use Rattle.node_apply.specs.NodeLinks.{fault_now, handed_over, is_lost, is_unreachable, noted, script_of};
@@ -277,7 +334,7 @@ impl Link for NodeLink {
         ensures receipt { IfOk result (λ receipt. receipt ≡ (received self.old.meaning.held message.now).0) }
         ensures ok { OnOk result (self.new.meaning ≡ after_message message.now self.old.meaning self.new.meaning.faults) }
         ensures leads { IfOk result (λ receipt. AcceptsTarget receipt self.new.meaning.held message.now) }
-        ensures unreachable { IsErrOf result LinkFault.Unreachable → self.new.meaning ≡ after_fault self.old.meaning self.new.meaning.faults }
+        ensures unreachable { IsErrOf result LinkFault.Unreachable → self.new.meaning ≡ after_missed message.now self.old.meaning self.new.meaning.faults }
         ensures cause { IsErrOf result LinkFault.Unreachable → Fails self.old.meaning self.new.meaning }
         ensures out_of_memory { IsErrOf result LinkFault.OutOfMemory → HoldsOldOrSent message.now self.old.meaning self.new.meaning }
         ensures never_falls { self.old.meaning.faults ≤ self.new.meaning.faults }
@@ -285,7 +342,9 @@ impl Link for NodeLink {
         // It can't reach the node exactly at a fault of the script. The publication is counted whatever comes of it, and
         // all but what it means to any caller stays.
         ensures failing { IsErrOf result LinkFault.Unreachable ↔ IsTrue (is_unreachable (fault_now (noted (target_id message.now) self.old))) }
-        ensures noted { self.new ≡ record (noted (target_id message.now) self.old) { meaning = self.new.meaning } }
+        ensures noted { self.new.meaning.last ≡ Some (target_id message.now) }
+        ensures counted { self.new.meaning.sent ≡ sent_with (target_id message.now) self.old.meaning }
+        ensures kept { self.new ≡ record self.old { meaning = self.new.meaning } }
         ensures steady { OnOk result (self.new.meaning.faults ≡ self.old.meaning.faults) }
     {
         self.note(message.target());
@@ -293,15 +352,13 @@ impl Link for NodeLink {
             self.count_fault();
             return Err(LinkFault::Unreachable);
         }
-        let receipt = take_message(self.alloc, &mut self.replica, &mut self.since, message)?;
-        match receipt {
-            Receipt::Incompatible { .. } => {}
-            Receipt::Accepted => {
-                self.waiting = None;
-                self.waiting = Some(self.replica.state().copy(self.alloc)?);
-            }
-        }
-        Ok(receipt)
+        Ok(accept(
+            self.alloc,
+            &mut self.replica,
+            &mut self.since,
+            &mut self.waiting,
+            message,
+        )?)
     }
 
     fn hand(&mut self, _version: u64) -> Result<(), LinkFault>
@@ -328,7 +385,7 @@ impl Link for NodeLink {
             unreachable!()
         };
         let since = mem::replace(&mut self.since, Since::Same);
-        let commit = Commit::new(state, self.publications, told(since));
+        let commit = Commit::new(state, self.sent, told(since));
         self.commits.hand(commit);
         Ok(())
     }

@@ -1,4 +1,5 @@
 ghost use Rattle.std.specs.Prelude.{◌≡◌, Some, IfOk, OnOk, unwrap_or};
+ghost use Rattle.plain_data.specs.Agreements.{with_all};
 ghost use Rattle.meta_state.specs.Touches.{AgreeOutside, touched_by_both};
 ghost use Rattle.session_law.specs.Changes.{change_between};
 ghost use Rattle.node_apply.specs.Commits.{AreLinked, MayDiffer, either_touched};
@@ -8,9 +9,10 @@ use crate::applied_states::{Applied, prepare_all};
 use crate::change_lists::change_of;
 use crate::changed_events::ChangedEvent;
 use crate::commits::{Commit, CommitEnd};
+use crate::putting::all_three;
 use crate::touched_names::touched_all;
 use meta_state::{ClusterState, Touched};
-use plain_data::OutOfMemory;
+use plain_data::{NameSet, OutOfMemory};
 use session_law::Change;
 use std::alloc::Global;
 
@@ -74,10 +76,9 @@ fn prepare_among(
     ensures ready { OnOk result (IsReadyFor applied.new new.now) }
     ensures change { IfOk result (λ change. change ≡ change_between applied.old.state new.now) }
 {
-    let event = ChangedEvent::new(&applied.state, new, touched);
-    let change = change_of(alloc, &event)?;
     prepare_all(applied, new, touched)?;
-    Ok(change)
+    let event = ChangedEvent::new(&applied.state, new, touched);
+    change_of(alloc, &event)
 }
 
 /// What may have changed since the applied state: by the commits that failed, and by the next one.
@@ -120,11 +121,22 @@ pub(crate) fn touched_union(
 ) -> Result<Touched, OutOfMemory>
     ensures { IfOk result (λ both. both ≡ touched_by_both first.now then.now) }
 {
-    let mut both = Touched {
-        indices: first.indices.copy()?,
-        settings: first.settings.copy()?,
-        nodes: first.nodes.copy()?,
-    };
+    let (indices, settings, nodes) = all_three(
+        names_union(&first.indices, &then.indices),
+        names_union(&first.settings, &then.settings),
+        names_union(&first.nodes, &then.nodes),
+    )?;
+    Ok(Touched {
+        indices,
+        settings,
+        nodes,
+    })
+}
+
+fn names_union(first: &NameSet, then: &NameSet) -> Result<NameSet, OutOfMemory>
+    ensures { IfOk result (λ both. both ≡ with_all then.now first.now) }
+{
+    let mut both = first.copy()?;
     both.include(then)?;
     Ok(both)
 }

@@ -5,6 +5,7 @@ ghost use Rattle.node_apply.specs.Updated.{updated, updated_at};
 
 use crate::appliers::Applier;
 use crate::changed_events::ChangedEvent;
+use crate::putting::put;
 use crate::updates::update;
 use meta_state::ClusterState;
 use plain_data::{Map, NameSet, OutOfMemory, Text};
@@ -85,10 +86,11 @@ impl Applier for SettingsView {
         ensures ok { OnOk result (self.new.next ≡ Some (settings_of event.now.new)) }
         ensures err { OnErr result (self.new.next ≡ None) }
     {
-        self.next = None;
+        put(&mut self.next, None);
         let new = &event.new_state().metadata.settings;
         let keys = &event.touched().settings;
-        self.next = Some(settings_after(&self.shown, new, keys)?);
+        let next = settings_after(&self.shown, new, keys)?;
+        put(&mut self.next, Some(next));
         Ok(())
     }
 

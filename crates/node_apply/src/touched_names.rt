@@ -1,7 +1,8 @@
-ghost use Rattle.std.specs.Prelude.{◌≡◌, IfOk, OnOk};
+ghost use Rattle.std.specs.Prelude.{◌≡◌, [], IfOk, OnOk};
 ghost use Rattle.meta_state.specs.Touches.{AgreeOutside};
 ghost use Rattle.node_apply.specs.TouchedNames.{with_names_of, names_in, touched_of, names_of_both, all_names_of};
 
+use crate::putting::all_three;
 use meta_state::{ClusterState, Touched};
 use plain_data::{Map, NameSet, OutOfMemory};
 use state_diff::{Diffable, MapDiff, StateDiff};
@@ -12,10 +13,15 @@ pub(crate) fn touched_by(_alloc: Global, diff: &StateDiff) -> Result<Touched, Ou
     ensures { IfOk result (λ made. made ≡ touched_of diff.now) }
 {
     let parts = diff.parts();
+    let (indices, settings, nodes) = all_three(
+        names_in(&parts.indices),
+        names_in(&parts.settings),
+        names_in(&parts.nodes),
+    )?;
     Ok(Touched {
-        indices: names_in(&parts.indices)?,
-        settings: names_in(&parts.settings)?,
-        nodes: names_in(&parts.nodes)?,
+        indices,
+        settings,
+        nodes,
     })
 }
 
@@ -30,10 +36,15 @@ pub(crate) fn touched_all(
     ensures agree { IfOk result (λ made. AgreeOutside made a.now b.now) }
 {
     let (old, new) = (&a.metadata, &b.metadata);
+    let (indices, settings, nodes) = all_three(
+        names_of_both(alloc, old.indices.by_name(), new.indices.by_name()),
+        names_of_both(alloc, &old.settings, &new.settings),
+        names_of_both(alloc, &a.nodes, &b.nodes),
+    )?;
     Ok(Touched {
-        indices: names_of_both(alloc, old.indices.by_name(), new.indices.by_name())?,
-        settings: names_of_both(alloc, &old.settings, &new.settings)?,
-        nodes: names_of_both(alloc, &a.nodes, &b.nodes)?,
+        indices,
+        settings,
+        nodes,
     })
 }
 
@@ -50,9 +61,17 @@ fn names_in<V: Diffable>(diff: &MapDiff<V>) -> Result<NameSet, OutOfMemory>
 fn names_of_both<V>(alloc: Global, a: &Map<V>, b: &Map<V>) -> Result<NameSet, OutOfMemory>
     ensures { IfOk result (λ made. made ≡ names_of_both a.now b.now) }
 {
-    let mut names = NameSet::new(alloc);
-    add_names_of(&mut names, a)?;
+    let mut names = names_of(alloc, a)?;
     add_names_of(&mut names, b)?;
+    Ok(names)
+}
+
+/// The keys of a map.
+pub(crate) fn names_of<V>(alloc: Global, map: &Map<V>) -> Result<NameSet, OutOfMemory>
+    ensures { IfOk result (λ made. made ≡ with_names_of map.now []) }
+{
+    let mut names = NameSet::new(alloc);
+    add_names_of(&mut names, map)?;
     Ok(names)
 }
 

@@ -4,6 +4,6 @@ use Rattle.node_apply.proofs.alias_views.put_aliases.Given as goal
 
 abbrev pub invariant-loop-name : goal.invariant-loop-name
 invariant-loop-name l = record {
-  all : aliases_among l.indices l.name-iterator l.made ≡ aliases_among l.fn.indices l.fn.names l.fn.aliases;
+  all : aliases_among l.indices l.name-iterator l.made ≡ aliases_among l.fn.indices l.fn.names l.fn.made;
   sets : AreInOrderAt l.indices l.name-iterator → AreInOrderAt l.fn.indices l.fn.names;
 }

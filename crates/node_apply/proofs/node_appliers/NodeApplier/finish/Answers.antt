@@ -1,4 +1,4 @@
-use Rattle.std.proofs.Common.{◌≡◌, ◌∙◌, ap}
+use Rattle.std.proofs.Common.{◌∙◌, ap}
 use Rattle.node_apply.specs.Applying.{record_of}
 use Rattle.node_apply.proofs.Tying.{handed_is}
 use Rattle.node_apply.proofs.node_appliers.NodeApplier.finish.Goals as goal

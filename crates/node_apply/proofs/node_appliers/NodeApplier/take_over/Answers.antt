@@ -1,4 +1,4 @@
-use Rattle.std.proofs.Common.{◌≡◌, ◌++◌, ◌∙◌, Some, ap, sym, subst}
+use Rattle.std.proofs.Common.{◌++◌, ◌∙◌, Some, ap, sym, subst}
 use Rattle.std.specs.Option.{unwrap_or}
 use Rattle.node_apply.specs.Applying.{Node, last_of_node}
 use Rattle.node_apply.specs.Commits.{AreLinked}

@@ -1,4 +1,4 @@
-use Rattle.std.proofs.Common.{◌≡◌, ◌∙◌, ap, refl}
+use Rattle.std.proofs.Common.{◌∙◌, ap, refl}
 use Rattle.node_apply.specs.Commits.{Handed, last_state}
 use Rattle.node_apply.proofs.Receiving.{first_forgotten, link_after_pass}
 use Rattle.node_apply.proofs.node_links.NodeLink.pass.Goals as goal

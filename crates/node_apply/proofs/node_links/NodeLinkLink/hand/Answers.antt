@@ -1,6 +1,5 @@
 use Rattle.std.proofs.Common.{◌≡◌, ◌∙◌, ap, sym, subst}
 use Rattle.std.specs.Option.{IfSome}
-use Rattle.meta_state.specs.declared.cluster_state.ClusterState.{ClusterState}
 use Rattle.node_apply.specs.Commits.{Handed, HandedCommit}
 use Rattle.node_apply.specs.NodeLinks.{IsTiedLink}
 use Rattle.node_apply.specs.Sinces.{told_by}
