@@ -1,12 +1,13 @@
 -- A batch that is added over links is the step of a batch, with those cut off that were missed; and the links hold
 -- afterwards what the world says.
-use Rattle.std.specs.Prelude.{◌≡◌, ℕ, ◌<◌, ◌^◌, Bool, true, false, List, [], ◌∷◌, ◌++◌, length, map, slice_get, drop, Some, Result, Ok, Err, IfOk, MatchResult, OnOk, refl, if◌then◌else◌}
+use Rattle.std.specs.Prelude.{◌≡◌, ℕ, ◌+◌, ◌<◌, ◌≤◌, ◌^◌, Bool, true, false, List, [], ◌∷◌, ◌++◌, length, map, slice_get, drop, Option, Some, None, Result, Ok, Err, IfOk, MatchResult, OnOk, refl, if◌then◌else◌}
 use Rattle.std.proofs.Common.{sym, ◌∙◌, ap, subst, arith}
 use Rattle.std.proofs.Math.Bool.{true≢false}
 use Rattle.std.specs.List.{AllByRecursion}
+use Rattle.edge_io.specs.Causes.{counted_up}
 use Rattle.meta_state.specs.declared.cluster_state.ClusterState.{ClusterState}
 use Rattle.publication.specs.declared.deliveries.Answer.{Answer}
-use Rattle.publication.specs.Deliveries.{CanTake, IsDelivered}
+use Rattle.publication.specs.Deliveries.{CanTake, IsDelivered, is_in}
 use Rattle.publication.specs.LinkMeanings.{LinkMeaning}
 use Rattle.publication.specs.Threes.{AllThree}
 use Rattle.publication.proofs.Threes.{three_by, three_map}
@@ -35,10 +36,11 @@ use Rattle.master_run.specs.Conclusions.{end_with, world_or}
 use Rattle.master_run.specs.Ledgers.{AreProposed, IsKnownTo, IsLedger}
 use Rattle.master_run.specs.Plans.{concluded}
 use Rattle.master_run.specs.Reaches.{AreScripted, IsReached, IsScripted, cut_off, node_after, nodes_after, reach_by}
-use Rattle.master_run.specs.Sendings.{AreLinksOf, CanSend, HaveRoom, IsDecided, IsSentFor}
+use Rattle.master_run.specs.Rooms.{CanPublish, HasRoom}
+use Rattle.master_run.specs.Sendings.{AreLinksOf, CanSend, HaveRoom, IsDecided, IsSentFor, WasProposed}
 use Rattle.master_run.specs.Touching.{KnowsChanges}
 use Rattle.master_run.proofs.Bounds.{version_few}
-use Rattle.master_run.proofs.Keeping.{kept_join, order_join, some_same}
+use Rattle.master_run.proofs.Keeping.{kept_join, no_some, order_join, some_same}
 use Rattle.master_run.proofs.Ledgering.{ledger_next}
 use Rattle.master_run.proofs.Planning.{IsFresh, ProposesFresh, plan_fresh, reach_cut, step_is}
 use Rattle.master_run.proofs.Reaching.{HasAnswered, IsCut, are_told, cut_where_missed, have_answered, no_more, reached_by}
@@ -51,23 +53,30 @@ pub joins_queue : (script : Script) (book : Chronicle) (number : ℕ) (queue : Q
 joins_queue script book number queue entries e joins =
     subst (λ (q : QueueSpec). CanJoin script book q entries) (some_same joins.queue queue (sym joins.of_queue ∙ e)) joins.joins
 
+-- no message led to the next proposal
+not_sent : (proposals id : ℕ) (last : Option ℕ) → id ≡ proposals + 2 → WasProposed proposals last → last ≡ Some id → ⊥
+not_sent proposals id None fresh was same = no_some id same
+not_sent proposals id (Some n) fresh was same = let is = some_same n id same in let low : n ≤ proposals + 1 = was in omega arith
+
 can_take : (world : World) (proposal : Proposal) (has : NodeWorld) (link : LinkMeaning) → IsFresh world proposal → IsKnownTo world has → link.held ≡ has.accepted → 0 < link.room
-    → CanTake world.state proposal.new link
-can_take world proposal has link fresh known e room =
+    → WasProposed world.proposals link.last → CanTake world.state proposal.new link
+can_take world proposal has link fresh known e room was =
     let held : link.held.id ≡ has.accepted.id = ap (λ (s : ClusterState). s.id) e in
     record {
       other = λ same. let id = fresh.id in let less = known.proposed in omega arith;
       same = λ same. e ∙ known.same (sym held ∙ same);
       room = room;
+      unsent = not_sent world.proposals proposal.new.id link.last fresh.id was;
     }
 
 all_can_take : (world : World) (proposal : Proposal) (have : List NodeWorld) (links : List LinkMeaning) → IsFresh world proposal → AllByRecursion (IsKnownTo world) have
-    → map (λ (l : LinkMeaning). l.held) links ≡ map (λ (n : NodeWorld). n.accepted) have → HaveRoom links → AllByRecursion (CanTake world.state proposal.new) links
-all_can_take world proposal have [] fresh known e room = tt
-all_can_take world proposal [] (link ∷ links) fresh known e room = absurd (no_more link.held (map (λ (l : LinkMeaning). l.held) links) (sym e))
-all_can_take world proposal (has ∷ have) (link ∷ links) fresh known e room = (
-  can_take world proposal has link fresh known.0 (some_same link.held has.accepted (ap (λ (states : List ClusterState). slice_get states 0) e)) room.0,
-  all_can_take world proposal have links fresh known.1 (ap (λ (states : List ClusterState). drop 1 states) e) room.1,
+    → map (λ (l : LinkMeaning). l.held) links ≡ map (λ (n : NodeWorld). n.accepted) have → HaveRoom links → AllByRecursion (λ l. WasProposed world.proposals l.last) links
+    → AllByRecursion (CanTake world.state proposal.new) links
+all_can_take world proposal have [] fresh known e room was = tt
+all_can_take world proposal [] (link ∷ links) fresh known e room was = absurd (no_more link.held (map (λ (l : LinkMeaning). l.held) links) (sym e))
+all_can_take world proposal (has ∷ have) (link ∷ links) fresh known e room was = (
+  can_take world proposal has link fresh known.0 (some_same link.held has.accepted (ap (λ (states : List ClusterState). slice_get states 0) e)) room.0 was.0,
+  all_can_take world proposal have links fresh known.1 (ap (λ (states : List ClusterState). drop 1 states) e) room.1 was.1,
 )
 
 can_send_plan : (planned : Planned) (nodes : List ScriptNode) (world : World) (links : List LinkMeaning) (plan : Plan) → ProposesFresh world plan → KnowsChanges planned.touched world.state plan
@@ -79,7 +88,7 @@ can_send_plan planned nodes world links (Proposed proposal) fresh knows are of r
     let version = fresh.version in
     record {
       differ = λ same. omega arith;
-      each = all_can_take world proposal world.nodes links fresh are.nodes of.held room;
+      each = all_can_take world proposal world.nodes links fresh are.nodes of.held room of.last;
       bound = omega arith;
       agree = knows;
     }
@@ -173,32 +182,88 @@ held_after prev new commits before after answers all =
     three_by (IsDelivered prev new commits) (IsHeldAfter new) (none_held new) (λ b a answer before after answers one all rest. one_held prev new commits b a answer before after answers one rest)
     before after answers all
 
+-- the count of publications to a node, in its link and in the world
+sent_one : (asked took : Bool) (new : ClusterState) (has : NodeWorld) (sent : ℕ) → sent ≡ has.sent → CanPublish has
+    → (if asked then counted_up sent else sent) ≡ (if asked then sent_more new has took else has).sent
+sent_one true true new has sent e few = omega arith
+sent_one true false new has sent e few = omega arith
+sent_one false took new has sent e few = e
+
+abbrev IsSentAfter : ClusterState → List LinkMeaning → List LinkMeaning → List Answer → Type 0
+IsSentAfter new before after answers = (have : List NodeWorld) → map (λ (l : LinkMeaning). l.sent) before ≡ map (λ (n : NodeWorld). n.sent) have → AllByRecursion CanPublish have
+    → map (λ (l : LinkMeaning). l.sent) after ≡ map (λ (n : NodeWorld). n.sent) (nodes_after new have answers)
+
+none_sent : (new : ClusterState) → IsSentAfter new [] [] []
+none_sent new [] e few = refl
+none_sent new (has ∷ have) e few = absurd (no_more has.sent (map (λ (n : NodeWorld). n.sent) have) e)
+
+one_sent : (prev new : ClusterState) (commits : Bool) (b a : LinkMeaning) (answer : Answer) (before after : List LinkMeaning) (answers : List Answer) → IsDelivered prev new commits b a answer
+    → IsSentAfter new before after answers → IsSentAfter new (b ∷ before) (a ∷ after) (answer ∷ answers)
+one_sent prev new commits b a answer before after answers one rest [] e few = absurd (no_more b.sent (map (λ (l : LinkMeaning). l.sent) before) (sym e))
+one_sent prev new commits b a answer before after answers one rest (has ∷ have) e few =
+    let sent = some_same b.sent has.sent (ap (λ (counts : List ℕ). slice_get counts 0) e) in
+    let here : a.sent ≡ (node_after new has answer).sent =
+    ap (λ (l : LinkMeaning). l.sent) one.link
+    ∙ ap (λ (asked : Bool). if asked then counted_up b.sent else b.sent) (sym (ap (λ (x : Answer). x.asked) one.told))
+    ∙ sent_one answer.asked answer.accepted new has b.sent sent few.0 in
+    λ i. here i ∷ rest have (ap (λ (counts : List ℕ). drop 1 counts) e) few.1 i
+
+sent_after : (prev new : ClusterState) (commits : Bool) (before after : List LinkMeaning) (answers : List Answer) → AllThree (IsDelivered prev new commits) before after answers
+    → IsSentAfter new before after answers
+sent_after prev new commits before after answers all =
+    three_by (IsDelivered prev new commits) (IsSentAfter new) (none_sent new) (λ b a answer before after answers one all rest. one_sent prev new commits b a answer before after answers one rest)
+    before after answers all
+
+-- the state to which the last message led
+last_one : (inside : Bool) (proposals id : ℕ) (last : Option ℕ) → id ≡ proposals + 2 → WasProposed proposals last → WasProposed (proposals + 1) (if inside then Some id else last)
+last_one true proposals id last fresh was = omega arith
+last_one false proposals id None fresh was = tt
+last_one false proposals id (Some n) fresh was = let low : n ≤ proposals + 1 = was in omega arith
+
+last_after : (prev new : ClusterState) (commits : Bool) (proposals : ℕ) (before after : List LinkMeaning) (answers : List Answer) → new.id ≡ proposals + 2
+    → AllThree (IsDelivered prev new commits) before after answers → AllByRecursion (λ (l : LinkMeaning). WasProposed proposals l.last) before
+    → AllByRecursion (λ (l : LinkMeaning). WasProposed (proposals + 1) l.last) after
+last_after prev new commits proposals before after answers fresh all =
+    three_by (IsDelivered prev new commits)
+    (λ before after answers. AllByRecursion (λ (l : LinkMeaning). WasProposed proposals l.last) before → AllByRecursion (λ (l : LinkMeaning). WasProposed (proposals + 1) l.last) after) (λ was. tt)
+    (λ b a answer before after answers one all rest was. (
+      subst (WasProposed (proposals + 1)) (sym (ap (λ (l : LinkMeaning). l.last) one.link)) (last_one (is_in new b) proposals new.id b.last fresh was.0),
+      rest was.1,
+    ))
+    before after answers all
+
 published_links : (commits : Bool) (nodes : List ScriptNode) (input : BatchInput) (world : World) (proposal : Proposal) (answers : List Answer) (after : List LinkMeaning)
     → map (λ (l : LinkMeaning). l.name) after ≡ map (λ (n : ScriptNode). n.name) nodes
     → map (λ (l : LinkMeaning). l.held) after ≡ map (λ (n : NodeWorld). n.accepted) (nodes_after proposal.new world.nodes answers)
+    → map (λ (l : LinkMeaning). l.sent) after ≡ map (λ (n : NodeWorld). n.sent) (nodes_after proposal.new world.nodes answers)
+    → AllByRecursion (λ (l : LinkMeaning). WasProposed (world.proposals + 1) l.last) after
     → AreLinksOf nodes (if commits then commit_step input world proposal.new proposal.marks (reach_by world.nodes answers proposal) else drop_step input world proposal.new (reach_by world.nodes answers proposal)).1 after
-published_links true nodes input world proposal answers after names held = record { names = names; held = held }
-published_links false nodes input world proposal answers after names held = record { names = names; held = held }
+published_links true nodes input world proposal answers after names held sent last = record { names = names; held = held; sent = sent; last = last }
+published_links false nodes input world proposal answers after names held sent last = record { names = names; held = held; sent = sent; last = last }
 
 links_concluded : (nodes : List ScriptNode) (input : BatchInput) (world : World) (may_read : ℕ → Bool) (before after : List LinkMeaning) (sent : Sent) (plan : Plan) → AreLinksOf nodes world before
-    → IsSentFor world may_read before after sent plan → AreLinksOf nodes (concluded (reach_by world.nodes sent.delivery.answers) input world plan).1 after
-links_concluded nodes input world may_read before after sent (Settled stepped) of sends = subst (AreLinksOf nodes world) (sym sends) of
-links_concluded nodes input world may_read before after sent (Proposed proposal) of sends =
+    → ProposesFresh world plan → AllByRecursion CanPublish world.nodes → IsSentFor world may_read before after sent plan
+    → AreLinksOf nodes (concluded (reach_by world.nodes sent.delivery.answers) input world plan).1 after
+links_concluded nodes input world may_read before after sent (Settled stepped) of fresh few sends = subst (AreLinksOf nodes world) (sym sends) of
+links_concluded nodes input world may_read before after sent (Proposed proposal) of fresh few sends =
     let answers = sent.delivery.answers in
     let each = sends.delivered.each in
     published_links (does_commit proposal.new (reach_by world.nodes answers proposal)) nodes input world proposal answers after
     (names_after world.state proposal.new sent.delivery.commits before after answers each ∙ of.names)
     (held_after world.state proposal.new sent.delivery.commits before after answers each world.nodes of.held)
+    (sent_after world.state proposal.new sent.delivery.commits before after answers each world.nodes of.sent few)
+    (last_after world.state proposal.new sent.delivery.commits world.proposals before after answers fresh.id each of.last)
 
 pub links_after : (script : Script) (queue : QueueSpec) (entries : List Entry) (world : World) (may_read : ℕ → Bool) (before after : List LinkMeaning) (sent : Sent) → IsScript script
-    → AreLinksOf script.nodes world before → IsSentFor world may_read before after sent (plan_for script queue entries world)
+    → HasRoom world → AreLinksOf script.nodes world before → IsSentFor world may_read before after sent (plan_for script queue entries world)
     → AreLinksOf script.nodes (batch_step (input_at (cut_off script.nodes sent.delivery.answers) script queue entries sent.commit) world).1 after
-links_after script queue entries world may_read before after sent valid of sends =
+links_after script queue entries world may_read before after sent valid room of sends =
     let input = input_at (cut_off script.nodes sent.delivery.answers) script queue entries sent.commit in
     let plan = plan_for script queue entries world in
     let reached = is_reached script world may_read before after sent plan valid of sends in
     let same = is_step script queue entries sent.commit world sent.delivery.answers plan (concluded (reach_by world.nodes sent.delivery.answers) input world plan) refl reached refl in
-    subst (λ (s : Stepped × World). AreLinksOf script.nodes s.1 after) same (links_concluded script.nodes input world may_read before after sent plan of sends)
+    subst (λ (s : Stepped × World). AreLinksOf script.nodes s.1 after) same
+    (links_concluded script.nodes input world may_read before after sent plan of (plan_fresh queue.executor (tasks_at script entries) world) room.sent sends)
 
 -- ---- where nodes are missed as the script says
 
@@ -325,9 +390,10 @@ order_if made script number entries at may_read before after old new order joins
     added
 
 pub links_if : {T E : Type 0} (made : Result T E) (script : Script) (number : ℕ) (entries : List Entry) (at : ℕ) (may_read : ℕ → Bool) (before after : List LinkMeaning) (old new : Chronicle)
-    → IsScript script → AreLinksOf script.nodes old.world before → OnOk made (IsAdded script number entries at may_read before after old new) → OnOk made (AreLinksOf script.nodes new.world after)
-links_if made script number entries at may_read before after old new valid of added =
+    → IsScript script → HasRoom old.world → AreLinksOf script.nodes old.world before → OnOk made (IsAdded script number entries at may_read before after old new)
+    → OnOk made (AreLinksOf script.nodes new.world after)
+links_if made script number entries at may_read before after old new valid room of added =
     on_ok _ _ made
     (λ h. subst (λ (b : Chronicle). AreLinksOf script.nodes b.world after) (sym h.book)
-    (links_after script h.queue entries old.world may_read before after h.sent valid of h.sends))
+    (links_after script h.queue entries old.world may_read before after h.sent valid room of h.sends))
     added

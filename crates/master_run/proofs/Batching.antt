@@ -1,5 +1,5 @@
 -- The master's turn, step by step: what it takes of a queue, what a batch gets of that, and how the batch ends.
-use Rattle.std.specs.Prelude.{◌≡◌, ℕ, ◌==◌, ◌+◌, ◌<◌, Bool, true, false, List, [], ◌∷◌, length, Option, Some, None, option_and_then, slice_get, refl, if◌then◌else◌}
+use Rattle.std.specs.Prelude.{◌≡◌, ℕ, ◌==◌, ◌+◌, ◌<◌, Bool, true, false, List, [], ◌∷◌, length, map, Option, Some, None, option_and_then, slice_get, refl, if◌then◌else◌}
 use Rattle.std.specs.Option.{option_map}
 use Rattle.std.proofs.Common.{sym, ◌∙◌, ap, subst, arith}
 use Rattle.std.proofs.Math.Bool.{true≢false}
@@ -20,10 +20,12 @@ use Rattle.master_intake.specs.declared.entries.WaitingTask.{WaitingTask}
 use Rattle.master_intake.specs.Intakes.{WaitTable, batch_from, batch_of, covered_by, left_after, left_without}
 use Rattle.master_intake.specs.Waitings.{left_by, next_queue, priorities_of}
 use Rattle.master_run.specs.declared.replays.Replay.{Replay}
-use Rattle.master_run.specs.Books.{CanJoinAt, Chronicle, added, added_to, input_at, last_entries, noted, placed_in, ran_at}
+use Rattle.master_run.specs.Appliers.{origin_of}
+use Rattle.master_run.specs.Books.{CanJoinAt, Chronicle, added, added_to, input_at, last_entries, last_stepped, noted, placed_in, ran_at}
 use Rattle.master_run.specs.Courses.{Course}
 use Rattle.master_run.specs.Events.{Event, event}
 use Rattle.master_run.specs.Linked.{AreUsed, IsLinked, batches_left}
+use Rattle.master_run.specs.Nodes.{handed_each}
 use Rattle.master_run.specs.Replays.{IsOverLinks, IsSound, course_of, serial_of}
 use Rattle.master_run.specs.Sendings.{AreLinksOf}
 use Rattle.master_run.specs.Serials.{Serial, after_turn, at_clock, master_turn}
@@ -127,9 +129,11 @@ empty_turn script before taken waiting tasks now entries taking got none =
     ∙ (λ i. (true, at_clock at (is i))) ∙ (λ i. (true, serial_of (record before { waiting = sym taking.left i; tasks = now })))
 
 pub sound_by_master : (script : Script) (before now : Replay) (acted : Bool) → IsScript script → IsSound script before
-    → after_turn (false, serial_of before) (master_turn script (serial_of before)) ≡ (acted, serial_of now) → now.waiting.priorities ≡ before.waiting.priorities → IsSound script now
-sound_by_master script before now acted valid sound e same =
+    → after_turn (false, serial_of before) (master_turn script (serial_of before)) ≡ (acted, serial_of now) → now.waiting.priorities ≡ before.waiting.priorities
+    → map origin_of now.nodes.items ≡ map origin_of before.nodes.items → IsSound script now
+sound_by_master script before now acted valid sound e same stay =
     sound_now script now (serial_of now) refl (master_on_time script (serial_of before) (serial_of now) acted valid (on_time script before sound) e) (same ∙ sound.priorities)
+    (stay ∙ sound.nodes)
 
 pub empty_linked : (script : Script) (before : Replay) (taken : Taken) (waiting : WaitTable) (tasks now : TaskTable) (links : List LinkMeaning) → IsTaking script before taken waiting tasks
     → IsLinked script (course_of before) links → IsLinked script (course_of (record before { waiting = waiting; tasks = now })) links
@@ -213,16 +217,19 @@ batch_ends script before taken waiting tasks now entries all ends book count sou
     (ends_of_batches (input_at (cut_by script.faults) script booked.found entries before.clock) before.book.world))))
 
 ran_some : (script : Script) (queue at : ℕ) (k : Course) (entries : List Entry) → 0 < length entries
-    → let book = added script k.book queue entries at at in ran script queue at at k entries ≡ record k { book = book; tasks = ended_all (length book.batches) entries book.ends k.tasks }
+    → let book = added script k.book queue entries at at in
+    ran script queue at at k entries
+    ≡ record k { book = book; tasks = ended_all (length book.batches) entries book.ends k.tasks; nodes = handed_each script (last_stepped book) script.nodes k.nodes }
 ran_some script queue at k [] some = absurd (omega arith)
 ran_some script queue at k (first ∷ more) some = refl
 
 pub batch_turn : (script : Script) (before new : Replay) (taken : Taken) (waiting : WaitTable) (tasks now after : TaskTable) (entries all : List Entry) (ends : List TaskEnd) (count : ℕ)
     → IsSound script before → IsTaking script before taken waiting tasks → got_from taken.queue (course_of before) ≡ record { entries = entries; tasks = now } → 0 < length entries
-    → new ≡ record before { waiting = waiting; tasks = now; book = added script before.book taken.queue entries before.clock before.clock }
+    → new ≡ record before { waiting = waiting; tasks = now; book = added script before.book taken.queue entries before.clock before.clock; nodes = new.nodes }
     → all ≡ last_entries new.book.batches → ends ≡ new.book.ends → count ≡ length before.book.batches → after ≡ ended_all (count + 1) all ends new.tasks
+    → handed_each script (last_stepped new.book) script.nodes (course_of before).nodes ≡ (course_of new).nodes
     → after_turn (false, serial_of before) (master_turn script (serial_of before)) ≡ (true, serial_of (record new { tasks = after }))
-batch_turn script before new taken waiting tasks now after entries all ends count sound taking got some e f g same h =
+batch_turn script before new taken waiting tasks now after entries all ends count sound taking got some e f g same h handed =
     let k = course_of before in
     let queue = taken.queue in
     let at = before.clock in
@@ -235,17 +242,21 @@ batch_turn script before new taken waiting tasks now after entries all ends coun
     let number : count + 1 ≡ length book.batches = ap (λ (n : ℕ). n + 1) same ∙ sym (booked_count script before queue entries book booked) in
     let after_is : after ≡ ended_all (length book.batches) entries book.ends now =
     h ∙ (λ i. ended_all (number i) (all_are i) (ends_are i) (ap (λ (r : Replay). r.tasks) e i)) in
-    let is : served script queue at at k ≡ record k { waiting = left_by queue k.waiting; book = book; tasks = ended_all (length book.batches) entries book.ends now } =
+    let nodes = (course_of new).nodes in
+    let handed_so : handed_each script (last_stepped book) script.nodes k.nodes ≡ nodes =
+    (λ i. handed_each script (last_stepped (ap (λ (r : Replay). r.book) (sym e) i)) script.nodes k.nodes) ∙ handed in
+    let is : served script queue at at k ≡ record k { waiting = left_by queue k.waiting; book = book; tasks = ended_all (length book.batches) entries book.ends now; nodes = nodes } =
     (λ i. ran script queue at at (record k { waiting = left_by queue k.waiting; tasks = (got i).tasks }) (got i).entries)
-    ∙ ran_some script queue at (record k { waiting = left_by queue k.waiting; tasks = now }) entries some in
+    ∙ ran_some script queue at (record k { waiting = left_by queue k.waiting; tasks = now }) entries some
+    ∙ (λ i. record k { waiting = left_by queue k.waiting; book = book; tasks = ended_all (length book.batches) entries book.ends now; nodes = handed_so i }) in
     master_acts script before taken waiting tasks taking
     ∙ (λ i. (true, at_clock at (is i)))
-    ∙ (λ i. (true, serial_of (record before { waiting = sym taking.left i; book = book; tasks = sym after_is i })))
-    ∙ (λ i. (true, serial_of (record (sym e i) { tasks = after })))
+    ∙ (λ i. (true, at_clock at (record (course_of (record before { waiting = sym taking.left i; book = book; tasks = sym after_is i })) { nodes = nodes })))
+    ∙ (λ i. (true, at_clock (sym e i).clock (record (course_of (record (sym e i) { tasks = after })) { nodes = nodes })))
 
 pub batch_linked : (script : Script) (before new : Replay) (taken : Taken) (waiting : WaitTable) (tasks now after : TaskTable) (entries : List Entry) (links used : List LinkMeaning)
     → IsTaking script before taken waiting tasks → IsLinked script (course_of before) links
-    → new ≡ record before { waiting = waiting; tasks = now; book = added script before.book taken.queue entries before.clock before.clock }
+    → new ≡ record before { waiting = waiting; tasks = now; book = added script before.book taken.queue entries before.clock before.clock; nodes = new.nodes }
     → AreLinksOf script.nodes new.book.world used → AreUsed links used → IsLinked script (course_of (record new { tasks = after })) used
 batch_linked script before new taken waiting tasks now after entries links used taking linked e of are_used =
     linked_by_batch script (course_of before) (course_of (record new { tasks = after })) taken.queue links used taking.some linked

@@ -18,6 +18,7 @@ use Rattle.session_law.proofs.Growth.{seen_none}
 use Rattle.task_words.specs.declared.words.Word.{Word}
 use Rattle.task_words.specs.declared.words.Word.TheVariants as word
 use Rattle.task_words.specs.Words.{vacant_lane}
+use Rattle.master_run.specs.Appliers.{AreNodesOf}
 use Rattle.master_run.specs.Courses.{first_course, lanes_of, moment_at, next_at, word_of, zeros_of}
 use Rattle.master_run.specs.declared.replays.Replay.{Replay}
 use Rattle.master_intake.specs.Waitings.{priorities_of}
@@ -28,9 +29,10 @@ use Rattle.master_run.specs.Serials.{Serial, first_serial, follow, if_acted, loa
 use Rattle.master_run.specs.Sessions.{session_of}
 use Rattle.master_run.specs.SoFar.{HasSeenSoFar, IsLawfulSoFar, IsWordLawful, is_submit_at, is_vacant}
 use Rattle.master_run.proofs.Closing.{rest_is_lawful}
-use Rattle.master_run.proofs.Keeping.{kept_first, no_some}
+use Rattle.master_run.proofs.Keeping.{kept_first}
+use Rattle.master_run.proofs.Recording.{recorded_first}
 use Rattle.master_run.proofs.Resting.{is_at_rest, play_on_time, round_less, round_still}
-use Rattle.master_run.proofs.Turning.{IsOnTime, client_keeps, master_keeps, sound_now}
+use Rattle.master_run.proofs.Turning.{IsOnTime, client_keeps, master_keeps, node_keeps, sound_now}
 
 -- ---- at first
 
@@ -91,13 +93,15 @@ first_lawful script = record {
     waits = tt;
   };
   told = record { queues = length-replicate (length script.queues) 0; sizes = λ q. none_size (length script.queues) q; stopped = refl };
+  recorded = recorded_first script;
 }
 
 pub first_on_time : (script : Script) → IsOnTime script (first_serial script)
 first_on_time script = record { lawful = first_lawful script; clock = omega arith }
 
-pub first_sound : (script : Script) (replay : Replay) → serial_of replay ≡ first_serial script → replay.waiting.priorities ≡ priorities_of script.queues → IsSound script replay
-first_sound script replay e priorities = sound_now script replay (first_serial script) e (first_on_time script) priorities
+pub first_sound : (script : Script) (replay : Replay) → serial_of replay ≡ first_serial script → replay.waiting.priorities ≡ priorities_of script.queues
+    → AreNodesOf script replay.nodes.items → IsSound script replay
+first_sound script replay e priorities nodes = sound_now script replay (first_serial script) e (first_on_time script) priorities nodes
 
 -- ---- the schedule
 
@@ -105,7 +109,7 @@ turn_keeps : (script : Script) (turn : ScriptTurn) (s : Serial) (o : Option Seri
 turn_keeps script turn s None e valid h = h
 turn_keeps script (turn.Client client) s (Some t) e valid h = client_keeps script client s t valid h e
 turn_keeps script turn.Master s (Some t) e valid h = master_keeps script s t valid h e
-turn_keeps script (turn.Node name) s (Some t) e valid h = absurd (no_some t e)
+turn_keeps script (turn.Node name) s (Some t) e valid h = node_keeps script name s t valid h e
 
 follow_keeps : (script : Script) (turns : List ScriptTurn) (s : Serial) → IsScript script → IsOnTime script s → IsOnTime script (follow script turns s)
 follow_keeps script [] s valid h = h
@@ -146,7 +150,7 @@ comes_to_rest script valid built = (finished script valid built).rests
 
 pub is_serial : (script : Script) → IsScript script → IsBuilt script → IsSerialSession script (replayed script)
 unfolding replayed
-is_serial script valid built = let f = finished script valid built in rest_is_lawful script (performed_all script).course built f.time.lawful f.rests
+is_serial script valid built = let f = finished script valid built in rest_is_lawful script (performed_all script).course valid built f.time.lawful f.rests
 
 pub replayed_from : (script : Script) (s : Serial) → s ≡ performed_all script → session_of script s.course ≡ replayed script
 unfolding replayed

@@ -1,12 +1,13 @@
 -- A replay's links stay those of its world, and have room for all that may still be committed; so that a batch over
 -- them is the one that the script asks for.
-use Rattle.std.specs.Prelude.{◌≡◌, ℕ, ◌+◌, ◌-◌, ◌<◌, ◌≤◌, Bool, true, false, not, cond, ◌&&◌, ◌||◌, List, [], ◌∷◌, length, map, Option, Some, None, Result, Ok, Err, IfOk, OnOk, refl, if◌then◌else◌}
+use Rattle.std.specs.Prelude.{◌≡◌, ℕ, ◌+◌, ◌-◌, ◌<◌, ◌≤◌, Bool, true, false, not, cond, ◌&&◌, ◌||◌, List, [], ◌∷◌, length, map, Option, Some, None, option_and_then, Result, Ok, Err, IfOk, OnOk, refl, if◌then◌else◌}
 use Rattle.std.proofs.Common.{sym, ◌∙◌, ap, subst, arith}
 use Rattle.std.proofs.Math.Bool.{true≢false}
 use Rattle.std.proofs.lemmas.List.{length-append}
 use Rattle.std.proofs.lemmas.List.Filters.{length-filter_both}
 use Rattle.std.specs.List.{AllByRecursion}
 use Rattle.meta_state.specs.declared.cluster_state.ClusterState.{ClusterState}
+use Rattle.node_apply.specs.NodeLinks.{NodeLinkView}
 use Rattle.plain_data.specs.declared.memory.OutOfMemory.{OutOfMemory}
 use Rattle.publication.specs.declared.deliveries.Answer.{Answer}
 use Rattle.publication.specs.Deliveries.{IsDelivered}
@@ -42,14 +43,15 @@ use Rattle.master_intake.specs.declared.entries.Waiting.{Waiting}
 use Rattle.master_intake.specs.Waitings.{is_in, left_by, taken_from}
 use Rattle.master_run.specs.Books.{Chronicle, IsAdded, added, added_to, input_at, noted, plan_for, ran_at}
 use Rattle.master_run.specs.Linked.{AreUsed, IsLinked, IsSteady, IsUsed, batches_left}
-use Rattle.master_run.specs.MemoryLinks.{links_for, room_for}
+use Rattle.master_run.specs.NodeEnds.{link_for, links_for, meanings_for, room_for}
 use Rattle.master_run.specs.Plans.{concluded}
 use Rattle.master_run.specs.Reaches.{AreScripted, IsScripted}
-use Rattle.master_run.specs.Sendings.{AreLinksOf, HaveRoom, IsSentFor}
+use Rattle.master_run.specs.Sendings.{AreLinksOf, HaveRoom, IsSentFor, WasProposed}
 use Rattle.master_run.specs.Courses.{Course, first_course, next_at, word_of}
 use Rattle.master_run.specs.Replays.{IsOverLinks, course_of, serial_of}
 use Rattle.std.specs.Option.{option_map}
-use Rattle.master_run.specs.Serials.{Serial, after_step, after_turn, at_clock, client_turn, first_serial}
+use Rattle.master_run.specs.Events.{Event, event}
+use Rattle.master_run.specs.Serials.{Serial, after_step, after_turn, at_clock, client_turn, first_serial, node_number, node_turn}
 use Rattle.master_run.specs.Servings.{has_some_in}
 use Rattle.master_run.specs.SoFar.{IsLawfulSoFar}
 use Rattle.master_run.specs.Steps.{awaited_by, batch_told, moved_on, next_step_of, performed, step_by, submitted_by, waiting_of}
@@ -60,12 +62,15 @@ use Rattle.master_run.proofs.Bounds.{stood}
 use Rattle.master_run.proofs.Keeping.{no_some, some_same}
 use Rattle.master_run.proofs.Planning.{reach_cut, step_is}
 use Rattle.master_run.proofs.Reaching.{HasAnswered, have_answered}
+use Rattle.master_run.proofs.Recording.{is_applied}
 use Rattle.master_run.proofs.StepsLeft.{kind_falls, left_falls, left_first}
 use Rattle.master_run.proofs.Taken.{faults_built}
+use Rattle.master_run.proofs.Turning.{after_cases, mapped}
 
 -- ---- over links of which none fails, a batch is the one of the script
 
-abbrev IsSure : ClusterState → ClusterState → Bool → LinkMeaning → LinkMeaning → Answer → Type 0
+-- a link that doesn't fail, and what was delivered over it
+abbrev pub IsSure : ClusterState → ClusterState → Bool → LinkMeaning → LinkMeaning → Answer → Type 0
 IsSure prev new commits before after answer = (before.reliable ≡ true) × IsDelivered prev new commits before after answer
 
 not_missed : (asked took : Bool) → (asked ≡ true → took ≡ false → ⊥) → (asked && not took) ≡ false
@@ -304,24 +309,52 @@ linked_by_none script k now number links some linked book positions waiting =
     let same = ap (λ (p : List ℕ). steps_left is_submit script.clients p) positions in
     linked_less script k now links (record { world = ap (λ (b : Chronicle). b.world) book; left = omega arith }) linked
 
+-- ---- a node's turn uses no link
+
+pub linked_by_apply : (script : Script) (k now : Course) (number : ℕ) (links : List LinkMeaning) → event script (Event.Apply number) k ≡ Some now → IsLinked script k links → IsLinked script now links
+linked_by_apply script k now number links e linked =
+    subst (λ (c : Course). IsLinked script c links) (is_applied script k now number e).is (record { of = linked.of; steady = linked.steady; faults = linked.faults })
+
+linked_by_number : (script : Script) (s t : Serial) (number : Option ℕ) (links : List LinkMeaning)
+    → option_and_then (λ n. option_map (at_clock s.clock) (event script (Event.Apply n) s.course)) number ≡ Some t → IsLinked script s.course links → IsLinked script t.course links
+linked_by_number script s t None links e linked = absurd (no_some t e)
+linked_by_number script s t (Some number) links e linked =
+    let m = mapped (at_clock s.clock) (event script (Event.Apply number) s.course) t e in
+    subst (λ (u : Serial). IsLinked script u.course links) m.is (linked_by_apply script s.course m.from number links m.found linked)
+
+pub linked_by_node : (script : Script) (name : List ℕ) (s t : Serial) (acted : Bool) (links : List LinkMeaning) → after_turn (false, s) (node_turn script name s) ≡ (acted, t)
+    → IsLinked script s.course links → IsLinked script t.course links
+linked_by_node script name s t acted links e linked =
+    after_cases (λ (u : Serial). IsLinked script u.course links) s t (node_turn script name s) acted linked (λ u f. linked_by_number script s u (node_number script name) links f linked) e
+
 -- ---- at first
 
 names_first : (room : ℕ) (first none : ClusterState) (nodes : List ScriptNode)
-    → map (λ (l : LinkMeaning). l.name) (links_for room nodes (map (first_node first none) nodes)) ≡ map (λ (n : ScriptNode). n.name) nodes
+    → map (λ (l : LinkMeaning). l.name) (meanings_for room nodes (map (first_node first none) nodes)) ≡ map (λ (n : ScriptNode). n.name) nodes
 names_first room first none [] = refl
 names_first room first none (node ∷ nodes) = λ i. node.name ∷ names_first room first none nodes i
 
 held_first : (room : ℕ) (first none : ClusterState) (nodes : List ScriptNode)
-    → map (λ (l : LinkMeaning). l.held) (links_for room nodes (map (first_node first none) nodes)) ≡ map (λ (n : NodeWorld). n.accepted) (map (first_node first none) nodes)
+    → map (λ (l : LinkMeaning). l.held) (meanings_for room nodes (map (first_node first none) nodes)) ≡ map (λ (n : NodeWorld). n.accepted) (map (first_node first none) nodes)
 held_first room first none [] = refl
 held_first room first none (node ∷ nodes) = λ i. (first_node first none node).accepted ∷ held_first room first none nodes i
 
-steady_first : (left room : ℕ) (nodes : List ScriptNode) (have : List NodeWorld) → left ≤ room → AllByRecursion (IsSteady left) (links_for room nodes have)
+sent_first : (room : ℕ) (first none : ClusterState) (nodes : List ScriptNode)
+    → map (λ (l : LinkMeaning). l.sent) (meanings_for room nodes (map (first_node first none) nodes)) ≡ map (λ (n : NodeWorld). n.sent) (map (first_node first none) nodes)
+sent_first room first none [] = refl
+sent_first room first none (node ∷ nodes) = λ i. 0 ∷ sent_first room first none nodes i
+
+last_first : (proposals room : ℕ) (nodes : List ScriptNode) (have : List NodeWorld) → AllByRecursion (λ (l : LinkMeaning). WasProposed proposals l.last) (meanings_for room nodes have)
+last_first proposals room [] have = tt
+last_first proposals room (node ∷ nodes) [] = tt
+last_first proposals room (node ∷ nodes) (has ∷ have) = (tt, last_first proposals room nodes have)
+
+steady_first : (left room : ℕ) (nodes : List ScriptNode) (have : List NodeWorld) → left ≤ room → AllByRecursion (IsSteady left) (meanings_for room nodes have)
 steady_first left room [] have h = tt
 steady_first left room (node ∷ nodes) [] h = tt
 steady_first left room (node ∷ nodes) (has ∷ have) h = (record { reliable = refl; room = h }, steady_first left room nodes have h)
 
-pub first_linked : (script : Script) (links : List LinkMeaning) → script.faults ≡ [] → links ≡ links_for (room_for script) script.nodes (first_world script).nodes
+pub first_linked : (script : Script) (links : List LinkMeaning) → script.faults ≡ [] → links ≡ meanings_for (room_for script) script.nodes (first_world script).nodes
     → IsLinked script (first_course script) links
 unfolding first_world
 first_linked script links none is =
@@ -329,14 +362,24 @@ first_linked script links none is =
     let empty = zero_state script.cluster in
     let left = left_first is_submit script.clients in
     subst (IsLinked script (first_course script)) (sym is) (record {
-      of = record { names = names_first (room_for script) first empty script.nodes; held = held_first (room_for script) first empty script.nodes };
+      of = record {
+        names = names_first (room_for script) first empty script.nodes;
+        held = held_first (room_for script) first empty script.nodes;
+        sent = sent_first (room_for script) first empty script.nodes;
+        last = last_first 0 (room_for script) script.nodes (map (first_node first empty) script.nodes);
+      };
       steady = steady_first (batches_left script (first_course script)) (room_for script) script.nodes (map (first_node first empty) script.nodes) (omega arith);
       faults = none;
     })
 
 pub begins_linked : (script : Script) (s : Serial) (world : World) (links : List LinkMeaning) → IsBuilt script → s ≡ first_serial script → world ≡ s.course.book.world
-    → links ≡ links_for (room_for script) script.nodes world.nodes → IsLinked script s.course links
+    → links ≡ meanings_for (room_for script) script.nodes world.nodes → IsLinked script s.course links
 begins_linked script s world links built first has is =
     let at : world ≡ first_world script = has ∙ ap (λ (t : Serial). t.course.book.world) first in
     subst (λ (t : Serial). IsLinked script t.course links) (sym first)
-    (first_linked script links (faults_built script built) (is ∙ ap (λ (w : World). links_for (room_for script) script.nodes w.nodes) at))
+    (first_linked script links (faults_built script built) (is ∙ ap (λ (w : World). meanings_for (room_for script) script.nodes w.nodes) at))
+
+pub meanings_are : (room : ℕ) (nodes : List ScriptNode) (have : List NodeWorld) → map (λ (l : NodeLinkView). l.meaning) (links_for room nodes have) ≡ meanings_for room nodes have
+meanings_are room [] have = refl
+meanings_are room (node ∷ nodes) [] = refl
+meanings_are room (node ∷ nodes) (has ∷ have) = ap (λ (l : List LinkMeaning). (link_for room node has).meaning ∷ l) (meanings_are room nodes have)

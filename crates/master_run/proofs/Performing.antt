@@ -138,6 +138,7 @@ sleep_keeps script k client ms h at =
       passed = passed_on script k.positions k.tasks client (Sleep ms) h.passed within at (λ earlier e. absurd (true≢false (sym e)));
       ended = h.ended;
       told = h.told;
+      recorded = h.recorded;
     }
 
 -- ---- an await
@@ -181,4 +182,5 @@ await_keeps script k client earlier batch h at told =
           (λ other e. one_awaited earlier other k.tasks client e (told_over (word_of k.tasks client earlier) batch told));
       ended = h.ended;
       told = h.told;
+      recorded = h.recorded;
     }

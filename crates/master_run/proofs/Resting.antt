@@ -1,6 +1,6 @@
--- The rounds come to rest: every turn that acts leaves less to do. Where no turn of a round acts, nothing waits and every
--- client is at its end.
-use Rattle.std.specs.Prelude.{◌≡◌, ℕ, zero, suc, ◌+◌, ◌<◌, ◌≤◌, ◌⊎◌, Bool, true, false, ◌&&◌, List, [], ◌∷◌, ◌++◌, drop, length, map, nat_lt, Option, Some, None, option_and_then, unwrap_or, slice_get, refl, if◌then◌else◌}
+-- The rounds come to rest: every turn that acts leaves less to do. Where no turn of a round acts, nothing waits, every
+-- client is at its end, and no node has anything left to apply.
+use Rattle.std.specs.Prelude.{◌≡◌, ℕ, zero, suc, ◌+◌, ◌<◌, ◌≤◌, ◌*◌, ◌⊎◌, Bool, true, false, ◌&&◌, List, [], ◌∷◌, ◌++◌, drop, length, set, nat_lt, Option, Some, None, option_and_then, unwrap_or, slice_get, refl, if◌then◌else◌}
 use Rattle.std.specs.Option.{option_map}
 use Rattle.std.proofs.Common.{sym, ◌∙◌, ap, subst, arith, inl, inr}
 use Rattle.std.proofs.Math.Bool.{true≢false}
@@ -20,26 +20,51 @@ use Rattle.scripts.specs.Built.{IsBuilt}
 use Rattle.scripts.specs.Scripts.{IsScript}
 use Rattle.session_law.specs.declared.batches.Entry.{Entry}
 use Rattle.session_law.specs.Endings.{task_timeout_of}
-use Rattle.session_law.specs.Histories.{step_at}
+use Rattle.session_law.specs.Histories.{SteppedBatch, step_at}
+use Rattle.session_law.specs.NodeRecords.{Commit, commit_to, is_handed}
 use Rattle.task_words.specs.declared.words.Word.{Word}
 use Rattle.task_words.specs.declared.words.Word.TheVariants as word
 use Rattle.master_intake.specs.declared.entries.Waiting.{Waiting}
 use Rattle.master_intake.specs.Waitings.{left_by, next_queue, priorities_of}
+use Rattle.master_run.specs.Books.{added, last_stepped}
 use Rattle.master_run.specs.Courses.{Course, moment_at, next_at, word_of}
 use Rattle.master_run.specs.Events.{Event, event}
+use Rattle.master_run.specs.Nodes.{NodeCourse, applied_node, first_applied, handed_each, handed_of, left_in, node_taking}
 use Rattle.master_run.specs.Rests.{IsAtRest}
-use Rattle.master_run.specs.Serials.{Serial, after_step, after_turn, at_clock, client_turn, client_turns, go_on, if_acted, load, master_turn, play, rest, round_turns, turn_of, turned}
+use Rattle.master_run.specs.Serials.{Serial, after_step, after_turn, at_clock, client_turn, client_turns, go_on, if_acted, load, master_turn, node_number, node_turn, node_turns, play, rest, round_turns, turn_of, turned}
 use Rattle.master_run.specs.Servings.{got_from, has_some_in, ran, served}
-use Rattle.master_run.specs.SoFar.{IsLawfulSoFar, IsWordLawful, is_entry_of, is_over, is_passed, is_vacant}
+use Rattle.master_run.specs.SoFar.{IsLawfulSoFar, IsRecordedAt, IsWordLawful, is_entry_of, is_over, is_passed, is_vacant}
 use Rattle.master_run.specs.Steps.{awaited_by, batch_told, moved_on, next_step_of, performed, step_by, submitted_by, waiting_of}
 use Rattle.master_run.specs.StepsLeft.{always, steps_left}
 use Rattle.master_run.proofs.Bounds.{stood}
+use Rattle.master_run.proofs.Distinct.{node_turn_at}
 use Rattle.master_run.proofs.Keeping.{no_some, not_true, some_same}
 use Rattle.master_run.proofs.Linking.{fewer_wait}
 use Rattle.master_run.proofs.Naming.{awaits_submit}
+use Rattle.master_run.proofs.Places.{all_at, all_mapped, all_placed}
+use Rattle.master_run.proofs.Recording.{is_applied}
 use Rattle.master_run.proofs.StepsLeft.{kind_falls}
 use Rattle.master_run.proofs.Taken.{built_at}
-use Rattle.master_run.proofs.Turning.{IsOnTime, client_keeps, mapped, master_keeps, next_waits}
+use Rattle.master_run.proofs.Turning.{IsOnTime, client_keeps, mapped, master_keeps, next_waits, node_keeps}
+
+-- ---- what counts for more than what it leaves
+
+times_less : (n a b : ℕ) → a < b → n * a + n ≤ n * b
+times_less zero a b less = omega arith
+times_less (suc n) a b less = let rest = times_less n a b less in omega arith
+
+times_more : (n a b : ℕ) → a ≤ b + 1 → n * a ≤ n * b + n
+times_more zero a b most = omega arith
+times_more (suc n) a b most = let rest = times_more n a b most in omega arith
+
+stepped_less : (n steps fewer waiting more left : ℕ) → fewer < steps → more ≤ waiting + 1 → (n + 2) * fewer + (n + 1) * more + left < (n + 2) * steps + (n + 1) * waiting + left
+stepped_less n steps fewer waiting more left p q = let a = times_less (n + 2) fewer steps p in let b = times_more (n + 1) more waiting q in omega arith
+
+served_less : (n steps waiting fewer left more : ℕ) → fewer < waiting → more ≤ left + n → (n + 2) * steps + (n + 1) * fewer + more < (n + 2) * steps + (n + 1) * waiting + left
+served_less n steps waiting fewer left more p q = let a = times_less (n + 1) fewer waiting p in omega arith
+
+applied_less : (steps waiting left fewer : ℕ) → fewer < left → steps + waiting + fewer < steps + waiting + left
+applied_less steps waiting left fewer p = omega arith
 
 -- ---- a step that is performed leaves less
 
@@ -47,25 +72,29 @@ submit_falls : (script : Script) (k : Course) (client at queue : ℕ) (task : Ta
     → step_at script client (next_at k.positions client) ≡ Some (Submit queue task timeout ack) → load script (submitted_by k client at queue task timeout) < load script k
 submit_falls script k client at queue task timeout ack h e =
     let step = stood script client (next_at k.positions client) (Submit queue task timeout ack) e in
+    let w = waiting_of client (next_at k.positions client) queue task in
     let fewer = kind_falls always script.clients k.positions client step.steps (Submit queue task timeout ack) h.performed.places step.of_client step.of_steps refl in
-    let longer = length-append k.waiting (waiting_of client (next_at k.positions client) queue task ∷ []) in
-    omega arith
+    let longer = length-append k.waiting (w ∷ []) in
+    stepped_less (length script.nodes) (steps_left always script.clients k.positions) (steps_left always script.clients (moved_on k.positions client)) (length k.waiting) (length (k.waiting ++ w ∷ []))
+    (left_in k.nodes) (omega arith) (omega arith)
 
+-- a step that moves its client on, and leaves what waits and the nodes
 moved_falls : (script : Script) (k now : Course) (client : ℕ) (step : Step) → IsLawfulSoFar script k → step_at script client (next_at k.positions client) ≡ Some step
-    → now.positions ≡ moved_on k.positions client → now.waiting ≡ k.waiting → load script now < load script k
-moved_falls script k now client step h e positions waiting =
+    → moved_on k.positions client ≡ now.positions → k.waiting ≡ now.waiting → k.nodes ≡ now.nodes → load script now < load script k
+moved_falls script k now client step h e positions waiting nodes =
     let at = stood script client (next_at k.positions client) step e in
     let fewer = kind_falls always script.clients k.positions client at.steps step h.performed.places at.of_client at.of_steps refl in
-    let same = ap (λ (p : List ℕ). steps_left always script.clients p) positions in
-    let long = ap (λ (w : List Waiting). length w) waiting in
-    omega arith
+    subst (λ (n : ℕ). n < load script k)
+    (λ i. (length script.nodes + 2) * steps_left always script.clients (positions i) + (length script.nodes + 1) * length (waiting i) + left_in (nodes i))
+    (stepped_less (length script.nodes) (steps_left always script.clients k.positions) (steps_left always script.clients (moved_on k.positions client)) (length k.waiting) (length k.waiting)
+    (left_in k.nodes) (omega arith) (omega arith))
 
 await_falls : (script : Script) (k now : Course) (client earlier : ℕ) (found : Option ℕ) → IsLawfulSoFar script k → step_at script client (next_at k.positions client) ≡ Some (Await earlier goal.Task)
     → awaited_by k client found ≡ Some now → load script now < load script k
 await_falls script k now client earlier None h e f = absurd (no_some now f)
 await_falls script k now client earlier (Some batch) h e f =
     let same = some_same _ now f in
-    moved_falls script k now client (Await earlier goal.Task) h e (ap (λ (c : Course). c.positions) (sym same)) (ap (λ (c : Course). c.waiting) (sym same))
+    moved_falls script k now client (Await earlier goal.Task) h e (ap (λ (c : Course). c.positions) same) (ap (λ (c : Course). c.waiting) same) (ap (λ (c : Course). c.nodes) same)
 
 step_falls : (script : Script) (k now : Course) (client at : ℕ) (found : Option Step) → IsLawfulSoFar script k → step_at script client (next_at k.positions client) ≡ found
     → step_by k client at found ≡ Some now → load script now < load script k
@@ -80,7 +109,7 @@ step_falls script k now client at (Some (Next _ _ _ _)) h e f = absurd (no_some 
 step_falls script k now client at (Some (Read _ _)) h e f = absurd (no_some now f)
 step_falls script k now client at (Some (Sleep ms)) h e f =
     let same = some_same _ now f in
-    moved_falls script k now client (Sleep ms) h e (ap (λ (c : Course). c.positions) (sym same)) (ap (λ (c : Course). c.waiting) (sym same))
+    moved_falls script k now client (Sleep ms) h e (ap (λ (c : Course). c.positions) same) (ap (λ (c : Course). c.waiting) same) (ap (λ (c : Course). c.nodes) same)
 step_falls script k now client at (Some Close) h e f = absurd (no_some now f)
 
 after_load : (script : Script) (s : Serial) (step : Option Step) → load script (after_step step s).course ≡ load script s.course
@@ -97,34 +126,79 @@ client_falls : (script : Script) (client : ℕ) (s t : Serial) → IsLawfulSoFar
 client_falls script client s t h e =
     let step = next_step_of script s.course client in
     let m = mapped (λ k. after_step step (at_clock s.clock k)) (performed script client s.clock s.course) t e in
-    let same = after_load script (at_clock s.clock m.from) step in
-    let falls = step_falls script s.course m.from client s.clock step h refl m.found in
-    subst (λ (u : Serial). load script u.course < load script s.course) m.is (omega arith)
+    subst (λ (u : Serial). load script u.course < load script s.course) m.is
+    (subst (λ (n : ℕ). n < load script s.course) (sym (after_load script (at_clock s.clock m.from) step)) (step_falls script s.course m.from client s.clock step h refl m.found))
 
 -- ---- a queue that is served leaves less
 
-ran_load : (script : Script) (queue at commit : ℕ) (k : Course) (entries : List Entry) → load script (ran script queue at commit k entries) ≡ load script k
-ran_load script queue at commit k [] = refl
-ran_load script queue at commit k (first ∷ more) = refl
+-- a batch hands each node one commit at most
+one_handed : (has : List Commit) (commit : Commit) (b : Bool) → length (has ++ (if b then commit ∷ [] else [])) ≤ length has + 1
+one_handed has commit true = let longer = length-append has (commit ∷ []) in omega arith
+one_handed has commit false = let same = length-append has [] in omega arith
 
-serve_falls : (script : Script) (s t : Serial) (queue : ℕ) (b : Bool) → has_some_in queue s.course.waiting ≡ b
-    → option_map (at_clock s.clock) (if b then Some (served script queue s.clock s.clock s.course) else None) ≡ Some t → load script t.course < load script s.course
-serve_falls script s t queue true some e =
-    let k = s.course in
-    let same = ran_load script queue s.clock s.clock (record k { waiting = left_by queue k.waiting; tasks = (got_from queue k).tasks }) (got_from queue k).entries in
-    let fewer = fewer_wait queue k.waiting some in
-    subst (λ (u : Serial). load script u.course < load script s.course) (some_same _ t e) (omega arith)
-serve_falls script s t queue false some e = absurd (no_some t e)
+none_handed : (has : List Commit) → length (has ++ []) ≤ length has + 1
+none_handed has = let same = length-append has [] in omega arith
 
-queue_falls : (script : Script) (s t : Serial) (queue : Option ℕ)
-    → option_and_then (λ q. option_map (at_clock s.clock) (event script (Event.Serve q s.clock s.clock) s.course)) queue ≡ Some t → load script t.course < load script s.course
-queue_falls script s t None e = absurd (no_some t e)
-queue_falls script s t (Some queue) e = serve_falls script s t queue (has_some_in queue s.course.waiting) refl e
+handed_most : (script : Script) (name : List ℕ) (s : Option SteppedBatch) (has : List Commit) → length (has ++ handed_of script name s) ≤ length has + 1
+handed_most script name None has = none_handed has
+handed_most script name (Some s) has = one_handed has (commit_to script name s) (is_handed script name s)
+
+pub left_most : (script : Script) (s : Option SteppedBatch) (nodes : List ScriptNode) (have : List NodeCourse) → left_in (handed_each script s nodes have) ≤ left_in have + length nodes
+left_most script s [] have = omega arith
+left_most script s (node ∷ more) [] = omega arith
+left_most script s (node ∷ more) (has ∷ others) =
+    let one = handed_most script node.name s has.left in
+    let rest = left_most script s more others in
+    omega arith
+
+ran_less : (script : Script) (queue at commit : ℕ) (k : Course) (entries : List Entry) (waiting : ℕ) → length k.waiting < waiting
+    → let n = length script.nodes in load script (ran script queue at commit k entries) < (n + 2) * steps_left always script.clients k.positions + (n + 1) * waiting + left_in k.nodes
+ran_less script queue at commit k [] waiting less =
+    served_less (length script.nodes) (steps_left always script.clients k.positions) waiting (length k.waiting) (left_in k.nodes) (left_in k.nodes) less (omega arith)
+ran_less script queue at commit k (first ∷ more) waiting less =
+    served_less (length script.nodes) (steps_left always script.clients k.positions) waiting (length k.waiting) (left_in k.nodes) _ less
+    (left_most script (last_stepped (added script k.book queue (first ∷ more) at commit)) script.nodes k.nodes)
+
+served_falls : (script : Script) (k now : Course) (queue at commit : ℕ) (b : Bool) → has_some_in queue k.waiting ≡ b → (if b then Some (served script queue at commit k) else None) ≡ Some now
+    → load script now < load script k
+served_falls script k now queue at commit true some e =
+    subst (λ (c : Course). load script c < load script k) (some_same _ now e)
+    (ran_less script queue at commit (record k { waiting = left_by queue k.waiting; tasks = (got_from queue k).tasks }) (got_from queue k).entries
+    (length k.waiting) (let fewer = fewer_wait queue k.waiting some in omega arith))
+served_falls script k now queue at commit false some e = absurd (no_some now e)
+
+-- ---- an apply leaves less
+
+left_set : (nodes : List NodeCourse) (number : ℕ) (has now : NodeCourse) → slice_get nodes number ≡ Some has → length now.left < length has.left → left_in (set nodes number now) < left_in nodes
+left_set [] number has now e less = absurd (no_some has e)
+left_set (first ∷ nodes) zero has now e less = let same = ap (λ (n : NodeCourse). length n.left) (some_same first has e) in omega arith
+left_set (first ∷ nodes) (suc number) has now e less = let rest = left_set nodes number has now e less in omega arith
+
+apply_falls : (script : Script) (k now : Course) (number : ℕ) → event script (Event.Apply number) k ≡ Some now → load script now < load script k
+apply_falls script k now number e =
+    let a = is_applied script k now number e in
+    let longer = ap (λ (l : List Commit). length l) a.left in
+    let after : NodeCourse = record (node_taking script a.node.name a.commit a.has) { left = a.more } in
+    subst (λ (c : Course). load script c < load script k) a.is
+    (applied_less ((length script.nodes + 2) * steps_left always script.clients k.positions) ((length script.nodes + 1) * length k.waiting) (left_in k.nodes) (left_in (set k.nodes number after))
+    (left_set k.nodes number a.has after a.of_course (omega arith)))
+
+-- ---- a turn leaves less
+
+chosen_falls : (script : Script) (chosen : ℕ → Event) (s t : Serial) (number : Option ℕ) → ((n : ℕ) (now : Course) → event script (chosen n) s.course ≡ Some now → load script now < load script s.course)
+    → option_and_then (λ n. option_map (at_clock s.clock) (event script (chosen n) s.course)) number ≡ Some t → load script t.course < load script s.course
+chosen_falls script chosen s t None falls e = absurd (no_some t e)
+chosen_falls script chosen s t (Some number) falls e =
+    let m = mapped (at_clock s.clock) (event script (chosen number) s.course) t e in
+    subst (λ (u : Serial). load script u.course < load script s.course) m.is (falls number m.from m.found)
 
 turn_falls : (script : Script) (turn : ScriptTurn) (s t : Serial) → IsLawfulSoFar script s.course → turn_of script turn s ≡ Some t → load script t.course < load script s.course
 turn_falls script (turn.Client client) s t h e = client_falls script client s t h e
-turn_falls script turn.Master s t h e = queue_falls script s t (next_queue (priorities_of script.queues) s.course.waiting) e
-turn_falls script (turn.Node name) s t h e = absurd (no_some t e)
+turn_falls script turn.Master s t h e =
+    chosen_falls script (λ queue. Event.Serve queue s.clock s.clock) s t (next_queue (priorities_of script.queues) s.course.waiting)
+    (λ queue now f. served_falls script s.course now queue s.clock s.clock (has_some_in queue s.course.waiting) refl f) e
+turn_falls script (turn.Node name) s t h e =
+    chosen_falls script (λ number. Event.Apply number) s t (node_number script name) (λ number now f. apply_falls script s.course now number f) e
 
 -- ---- turns in a row
 
@@ -155,7 +229,7 @@ after_on_time : (script : Script) (turn : ScriptTurn) (before : Bool × Serial) 
 after_on_time script turn before None e valid h = h
 after_on_time script (turn.Client client) before (Some t) e valid h = client_keeps script client before.1 t valid h e
 after_on_time script turn.Master before (Some t) e valid h = master_keeps script before.1 t valid h e
-after_on_time script (turn.Node name) before (Some t) e valid h = absurd (no_some t e)
+after_on_time script (turn.Node name) before (Some t) e valid h = node_keeps script name before.1 t valid h e
 
 turned_on_time : (script : Script) (turn : ScriptTurn) (before : Bool × Serial) → IsScript script → IsOnTime script before.1 → IsOnTime script (turned script before turn).1
 turned_on_time script turn before valid h = after_on_time script turn before (turn_of script turn before.1) refl valid h
@@ -300,17 +374,39 @@ rests_by script s client (Some steps) e valid built h empty all =
     at_end script s client (next_step_of script s.course client) valid built h empty refl
     (subst (λ (n : ℕ). turn_of script (turn.Client n) s ≡ None) (zero_sum client) (turn_there (λ t. turn_of script t s ≡ None) 0 client script.clients steps e all))
 
+-- a node that can't act has nothing left
+none_left : (script : Script) (s : Serial) (number : ℕ) (name : List ℕ) (has : NodeCourse) (left : List Commit)
+    → option_map (at_clock s.clock) (option_map (λ (n : NodeCourse). record s.course { nodes = set s.course.nodes number n }) (first_applied script name left has)) ≡ None → left ≡ []
+none_left script s number name has [] e = refl
+none_left script s number name has (commit ∷ more) e = absurd (no_some _ (sym e))
+
+node_rests : (script : Script) (s : Serial) (number : ℕ) (node : ScriptNode) (has : NodeCourse) → IsScript script → slice_get script.nodes number ≡ Some node → slice_get s.course.nodes number ≡ Some has
+    → node_turn script node.name s ≡ None → has.left ≡ []
+node_rests script s number node has valid e f none =
+    let acts : Option ScriptNode → Option NodeCourse → Option Serial =
+    λ a b. option_map (at_clock s.clock) (option_map (λ (n : NodeCourse). record s.course { nodes = set s.course.nodes number n }) (applied_node script a b)) in
+    none_left script s number node.name has has.left
+    ((λ i. acts (sym e i) (sym f i)) ∙ sym (node_turn_at script number node s valid e) ∙ none)
+
+nodes_rest : (script : Script) (s : Serial) → IsScript script → IsLawfulSoFar script s.course → AllByRecursion (λ t. turn_of script t s ≡ None) (node_turns script.nodes)
+    → AllByRecursion (λ (n : NodeCourse). n.left ≡ []) s.course.nodes
+nodes_rest script s valid h none =
+    let each = all_mapped (λ t. turn_of script t s ≡ None) (λ (n : ScriptNode). turn.Node n.name) script.nodes none in
+    all_placed (IsRecordedAt script s.course.book.batches) (λ (n : NodeCourse). n.left ≡ []) script.nodes s.course.nodes h.recorded
+    (λ number node has e f. node_rests script s number node has valid e f (all_at (λ (n : ScriptNode). node_turn script n.name s ≡ None) script.nodes number node each e))
+
 pub is_at_rest : (script : Script) (s t : Serial) → IsScript script → IsBuilt script → IsOnTime script s → play script (round_turns script) (false, s) ≡ (false, t) → IsAtRest script t.course
 is_at_rest script s t valid built h e =
     let none = none_act script (round_turns script) s (ap (λ (p : Bool × Serial). p.0) e) in
     let turns = client_turns 0 script.clients in
-    let others = turn.Master ∷ map (λ (n : ScriptNode). turn.Node n.name) script.nodes in
+    let others = turn.Master ∷ node_turns script.nodes in
     let master = all_later (λ t. turn_of script t s ≡ None) turns others none in
     let empty = none_next script s s.course.waiting (next_queue (priorities_of script.queues) s.course.waiting) refl refl master.0 in
     let clients = all_first (λ t. turn_of script t s ≡ None) turns others none in
     subst (λ (u : Serial). IsAtRest script u.course) (sym (round_still script s t valid h e)) (record {
       empty = empty;
       ended = λ client. rests_by script s client (slice_get script.clients client) refl valid built h.lawful empty clients;
+      applied = nodes_rest script s valid h.lawful master.1;
     })
 
 -- ---- how many rounds are enough
@@ -350,11 +446,7 @@ play_both : (script : Script) (xs ys : List ScriptTurn) (before : Bool × Serial
 play_both script [] ys before = refl
 play_both script (x ∷ xs) ys before = play_both script xs ys (turned script before x)
 
-play_nodes : (script : Script) (nodes : List ScriptNode) (before : Bool × Serial) → play script (map (λ (n : ScriptNode). turn.Node n.name) nodes) before ≡ before
-play_nodes script [] before = refl
-play_nodes script (node ∷ nodes) before = play_nodes script nodes before
-
-either_acts : (acted b : Bool) (s t : Serial) (o : Option Serial) → after_turn (false, s) o ≡ (b, t) → after_turn (acted, s) o ≡ ((if b then true else acted), t)
+pub either_acts : (acted b : Bool) (s t : Serial) (o : Option Serial) → after_turn (false, s) o ≡ (b, t) → after_turn (acted, s) o ≡ ((if b then true else acted), t)
 either_acts acted b s t None e =
     (λ i. ((if (ap (λ (p : Bool × Serial). p.0) e i) then true else acted), ap (λ (p : Bool × Serial). p.1) e i))
 either_acts acted b s t (Some u) e =
@@ -366,29 +458,29 @@ none_dropped [] (suc n) over = refl
 none_dropped (x ∷ xs) zero over = absurd (omega arith)
 none_dropped (x ∷ xs) (suc n) over = none_dropped xs n (omega arith)
 
-pub round_played : (script : Script) (first s t : Serial) (place client : ℕ) (acted b : Bool) → length script.clients ≤ place
+-- up to its nodes
+round_led : (script : Script) (first s t : Serial) (place client : ℕ) (acted b : Bool) → length script.clients ≤ place
     → play script (client_turns client (drop place script.clients)) (acted, s) ≡ play script (client_turns 0 script.clients) (false, first) → after_turn (false, s) (master_turn script s) ≡ (b, t)
-    → play script (round_turns script) (false, first) ≡ ((if b then true else acted), t)
-round_played script first s t place client acted b over leads e =
-    let nodes = map (λ (n : ScriptNode). turn.Node n.name) script.nodes in
+    → play script (node_turns script.nodes) ((if b then true else acted), t) ≡ play script (round_turns script) (false, first)
+round_led script first s t place client acted b over leads e =
+    let nodes = node_turns script.nodes in
     let clients : (acted, s) ≡ play script (client_turns 0 script.clients) (false, first) =
     ap (λ (l : List (List Step)). play script (client_turns client l) (acted, s)) (sym (none_dropped script.clients place over)) ∙ leads in
-    play_both script (client_turns 0 script.clients) (turn.Master ∷ nodes) (false, first)
+    sym (play_both script (client_turns 0 script.clients) (turn.Master ∷ nodes) (false, first)
     ∙ ap (play script (turn.Master ∷ nodes)) (sym clients)
-    ∙ play_nodes script script.nodes (after_turn (acted, s) (master_turn script s))
-    ∙ either_acts acted b s t (master_turn script s) e
+    ∙ ap (play script nodes) (either_acts acted b s t (master_turn script s) e))
 
 pub round_acted : (script : Script) (first s t : Serial) (place client : ℕ) (acted b : Bool) → length script.clients ≤ place
     → play script (client_turns client (drop place script.clients)) (acted, s) ≡ play script (client_turns 0 script.clients) (false, first) → after_turn (false, s) (master_turn script s) ≡ (b, t) → b ≡ true
-    → play script (round_turns script) (false, first) ≡ (true, t)
+    → play script (node_turns script.nodes) (true, t) ≡ play script (round_turns script) (false, first)
 round_acted script first s t place client acted b over leads e acts =
-    round_played script first s t place client acted b over leads e ∙ (λ i. ((if (acts i) then true else acted), t))
+    (λ i. play script (node_turns script.nodes) ((if (sym acts i) then true else acted), t)) ∙ round_led script first s t place client acted b over leads e
 
 pub round_still_so : (script : Script) (first s t : Serial) (place client : ℕ) (acted b : Bool) → length script.clients ≤ place
     → play script (client_turns client (drop place script.clients)) (acted, s) ≡ play script (client_turns 0 script.clients) (false, first) → after_turn (false, s) (master_turn script s) ≡ (b, t) → b ≡ false
-    → play script (round_turns script) (false, first) ≡ (acted, t)
+    → play script (node_turns script.nodes) (acted, t) ≡ play script (round_turns script) (false, first)
 round_still_so script first s t place client acted b over leads e none =
-    round_played script first s t place client acted b over leads e ∙ (λ i. ((if (none i) then true else acted), t))
+    (λ i. play script (node_turns script.nodes) ((if (sym none i) then true else acted), t)) ∙ round_led script first s t place client acted b over leads e
 
 -- what a round answers
 pub round_ended : (script : Script) (before now end : Serial) (b : Bool) → IsScript script → IsOnTime script before → play script (round_turns script) (false, before) ≡ (b, now) → b ≡ false

@@ -28,9 +28,10 @@ use Rattle.task_words.proofs.Cells.{same_or_not}
 use Rattle.master_intake.specs.declared.entries.Waiting.{Waiting}
 use Rattle.master_intake.specs.declared.entries.WaitingTask.{WaitingTask}
 use Rattle.master_intake.specs.Waitings.{entries_of, is_in, left_by, taken_from}
-use Rattle.master_run.specs.Books.{CanJoin, Chronicle, added, added_to, input_at, noted, placed_in, ran_at}
+use Rattle.master_run.specs.Books.{CanJoin, Chronicle, added, added_to, input_at, last_stepped, noted, placed_in, ran_at}
 use Rattle.master_run.specs.Courses.{Course, id_at, moment_at, next_at, word_of}
 use Rattle.master_run.specs.Endings.{code_of, end_by, outcome_by}
+use Rattle.master_run.specs.Nodes.{handed_each}
 use Rattle.master_run.specs.Servings.{Gathered, ended_all, gathered, gathered_with, got_from, has_some_in, ran, served}
 use Rattle.master_run.specs.SoFar.{HasSeenSoFar, IsEndedSoFar, IsLawfulSoFar, IsOrderedSoFar, IsPassed, IsPassedSoFar, IsPerformed, IsSeenSoFar, IsTold, IsWaiting, IsWordLawful, is_entry_of, is_over, is_passed, is_submit_at, is_vacant, may_wait, queued_at}
 use Rattle.master_run.proofs.Alls.{all_append, all_both, all_by, all_filter}
@@ -40,6 +41,7 @@ use Rattle.master_run.proofs.Gathering.{AreOthers, IsGot, all_waited, entries_in
 use Rattle.master_run.proofs.Joining.{IsTaken, among_filter, any_parted, any_trial, crossed, got_apart, others_among, placed_got, served_queue, taken_all, waiting_own}
 use Rattle.master_run.proofs.Keeping.{apart_append, batch_of, both_first, false_from, kept_join, placed_push, stepped_again}
 use Rattle.master_run.proofs.Positions.{rows_keep}
+use Rattle.master_run.proofs.Recording.{recorded_served}
 use Rattle.master_run.proofs.Wordwise.{at_same, at_turned}
 
 -- ---- what is tried, and what is got
@@ -559,6 +561,7 @@ none_served script k number h none =
             (all_filter (λ w. may_wait (word_of k.tasks w.entry.id.client w.entry.id.step) ≡ true) elsewhere k.waiting h.ended.waits);
       };
       told = told_served script k number now h.told same;
+      recorded = h.recorded;
     }
 
 -- ---- the event
@@ -570,6 +573,7 @@ some_served : (script : Script) (k : Course) (number : ℕ) (queue : QueueSpec) 
       book = book;
       waiting = left_by number k.waiting;
       tasks = ended_all (length book.batches) (got_in number k) book.ends (got_from number k).tasks;
+      nodes = handed_each script (last_stepped book) script.nodes k.nodes;
     })
 some_served script k number queue at commit valid h e some =
     let entries = got_in number k in
@@ -582,18 +586,32 @@ some_served script k number queue at commit valid h e some =
     let same = same_tables (covered number k) now after (gathered_same (length k.book.batches + 1) (tried_in number k) (record { entries = []; tasks = covered number k }))
     (ended_same (length k.book.batches + 1) entries made.0.ends now) in
     let has = has_words script k number queue made.0.ends h joins (ends_count script k.book.world queue entries commit joins.own) (ends_of_batches (input_at (cut_by script.faults) script queue entries commit) k.book.world) in
-    subst (λ (n : ℕ). IsLawfulSoFar script (record k { book = noted k.book queue entries at made; waiting = left_by number k.waiting; tasks = ended_all n entries made.0.ends now })) (sym count) (record {
+    let book = noted k.book queue entries at made in
+    subst
+    (λ (n : ℕ). IsLawfulSoFar script (record k {
+      book = book;
+      waiting = left_by number k.waiting;
+      tasks = ended_all n entries made.0.ends now;
+      nodes = handed_each script (last_stepped book) script.nodes k.nodes;
+    }))
+    (sym count) (record {
       performed = performed_served script k number made.0.ends after h.performed same has;
       ordered = ordered_served script k number queue at commit valid h e some;
       seen = seen_served script k number queue.name batch made.0.ends after h has refl;
       passed = passed_served script k number made.0.ends after h.passed has;
       ended = ended_served script k number queue at commit after valid h e has;
       told = told_served script k number after h.told same;
+      recorded = recorded_served script k.book number queue entries at commit k.nodes valid h.ordered.kept e h.recorded;
     })
 
 abbrev ran_with : Script → Course → ℕ → Chronicle → List Entry → Course
 ran_with script k number book entries =
-    record k { book = book; waiting = left_by number k.waiting; tasks = ended_all (length book.batches) entries book.ends (got_from number k).tasks }
+    record k {
+      book = book;
+      waiting = left_by number k.waiting;
+      tasks = ended_all (length book.batches) entries book.ends (got_from number k).tasks;
+      nodes = handed_each script (last_stepped book) script.nodes k.nodes;
+    }
 
 ran_keeps : (script : Script) (k : Course) (number : ℕ) (queue : QueueSpec) (at commit : ℕ) (entries : List Entry) → IsScript script → IsLawfulSoFar script k
     → slice_get script.queues number ≡ Some queue → got_in number k ≡ entries

@@ -277,4 +277,5 @@ submit_keeps script k client at queue task timeout ack valid h step =
       passed = passed_submit script k client at queue task timeout h.passed is;
       ended = ended_submit script k client at queue task timeout h.ended is;
       told = told_submit script k client at queue task timeout h.told is;
+      recorded = h.recorded;
     }

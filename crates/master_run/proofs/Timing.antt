@@ -123,6 +123,7 @@ expire_keeps script k id reading valid h few =
         sizes = λ q. ap (λ (all : List ℕ). get_or all q 0) same.sizes ∙ h.told.sizes q;
         stopped = same.stopped ∙ h.told.stopped;
       };
+      recorded = h.recorded;
     }
 
 -- each of what waits

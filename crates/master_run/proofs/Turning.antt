@@ -1,9 +1,10 @@
 -- Every event leaves a course lawful so far, and so does every turn of the serial rule.
-use Rattle.std.specs.Prelude.{◌≡◌, ℕ, ◌-◌, ◌^◌, ◌≤◌, ◌||◌, Bool, true, false, List, [], ◌∷◌, nat_lt, Option, Some, None, Result, Ok, Err, IfOk, OnOk, option_and_then, refl, if◌then◌else◌}
+use Rattle.std.specs.Prelude.{◌≡◌, ℕ, ◌-◌, ◌^◌, ◌≤◌, ◌||◌, Bool, true, false, List, [], ◌∷◌, map, nat_lt, Option, Some, None, Result, Ok, Err, IfOk, OnOk, option_and_then, refl, if◌then◌else◌}
 use Rattle.std.specs.Option.{option_map}
-use Rattle.std.proofs.Common.{sym, ◌∙◌, ap, subst, arith}
+use Rattle.std.proofs.Common.{Global, Vec, sym, ◌∙◌, ap, subst, arith}
 use Rattle.std.specs.Cmp.{unsigned_Decides}
 use Rattle.std.specs.List.{list_any}
+use Rattle.node_apply.specs.Applying.{Node}
 use Rattle.plain_data.specs.declared.memory.OutOfMemory.{OutOfMemory}
 use Rattle.scripts.specs.declared.queues.Priority.{Priority}
 use Rattle.scripts.specs.declared.whole_script.Script.{Script}
@@ -15,17 +16,19 @@ use Rattle.session_law.specs.DueTimes.{due}
 use Rattle.session_law.specs.Histories.{step_at}
 use Rattle.master_intake.specs.declared.entries.Waiting.{Waiting}
 use Rattle.master_intake.specs.Waitings.{is_in, next_queue, priorities_of, rank_at, sooner, soonest}
+use Rattle.master_run.specs.Appliers.{AreNodesOf, origin_of}
 use Rattle.master_run.specs.Courses.{Course, next_at, word_of}
 use Rattle.master_run.specs.Events.{Event, event}
 use Rattle.master_run.specs.declared.replays.Replay.{Replay}
 use Rattle.master_run.specs.Laws.{EventsKeepLawful, IsReadable}
 use Rattle.master_run.specs.Replays.{IsSound, serial_of}
-use Rattle.master_run.specs.Serials.{Serial, after_step, after_turn, at_clock, client_turn, master_turn}
+use Rattle.master_run.specs.Serials.{Serial, after_step, after_turn, at_clock, client_turn, master_turn, node_number, node_turn}
 use Rattle.master_run.specs.Servings.{has_some_in, served}
 use Rattle.master_run.specs.SoFar.{IsLawfulSoFar}
 use Rattle.master_run.specs.Steps.{awaited_by, batch_told, next_step_of, performed, step_by}
 use Rattle.master_run.proofs.Keeping.{no_some, or_left, or_right, some_same}
 use Rattle.master_run.proofs.Performing.{await_keeps, sleep_keeps}
+use Rattle.master_run.proofs.Recording.{apply_keeps}
 use Rattle.master_run.proofs.Serving.{serve_keeps}
 use Rattle.master_run.proofs.Submitting.{submit_keeps}
 use Rattle.master_run.proofs.Timing.{all_expire_keep, expire_keeps}
@@ -60,6 +63,7 @@ serve_found script k now queue at commit false some valid h f = absurd (no_some 
 pub event_keeps : (script : Script) (k now : Course) (e : Event) → IsScript script → IsLawfulSoFar script k → IsReadable e → event script e k ≡ Some now → IsLawfulSoFar script now
 event_keeps script k now (Event.Perform client at) valid h may f = step_keeps script k now client at (next_step_of script k client) valid h refl f
 event_keeps script k now (Event.Serve queue at commit) valid h may f = serve_found script k now queue at commit (has_some_in queue k.waiting) refl valid h f
+event_keeps script k now (Event.Apply node) valid h may f = apply_keeps script k now node h f
 event_keeps script k now (Event.Expire id reading) valid h may f = subst (IsLawfulSoFar script) (some_same _ now f) (expire_keeps script k id reading valid h may)
 
 pub events_keep_lawful : EventsKeepLawful
@@ -120,15 +124,20 @@ client_keeps script client s t valid h e =
     subst (IsOnTime script) m.is (on_step script (at_clock s.clock m.from) (next_step_of script s.course client) valid
     (record { lawful = event_keeps script s.course m.from (Event.Perform client s.clock) valid h.lawful tt m.found; clock = h.clock }))
 
-queue_keeps : (script : Script) (s t : Serial) (queue : Option ℕ) → IsScript script → IsOnTime script s
-    → option_and_then (λ q. option_map (at_clock s.clock) (event script (Event.Serve q s.clock s.clock) s.course)) queue ≡ Some t → IsOnTime script t
-queue_keeps script s t None valid h e = absurd (no_some t e)
-queue_keeps script s t (Some queue) valid h e =
-    let m = mapped (at_clock s.clock) (event script (Event.Serve queue s.clock s.clock) s.course) t e in
-    subst (IsOnTime script) m.is (record { lawful = event_keeps script s.course m.from (Event.Serve queue s.clock s.clock) valid h.lawful tt m.found; clock = h.clock })
+-- an event of a number, where there is one
+chosen_keeps : (script : Script) (chosen : ℕ → Event) (s t : Serial) (number : Option ℕ) → ((n : ℕ) → IsReadable (chosen n)) → IsScript script → IsOnTime script s
+    → option_and_then (λ n. option_map (at_clock s.clock) (event script (chosen n) s.course)) number ≡ Some t → IsOnTime script t
+chosen_keeps script chosen s t None may valid h e = absurd (no_some t e)
+chosen_keeps script chosen s t (Some number) may valid h e =
+    let m = mapped (at_clock s.clock) (event script (chosen number) s.course) t e in
+    subst (IsOnTime script) m.is (record { lawful = event_keeps script s.course m.from (chosen number) valid h.lawful (may number) m.found; clock = h.clock })
 
 pub master_keeps : (script : Script) (s t : Serial) → IsScript script → IsOnTime script s → master_turn script s ≡ Some t → IsOnTime script t
-master_keeps script s t valid h e = queue_keeps script s t (next_queue (priorities_of script.queues) s.course.waiting) valid h e
+master_keeps script s t valid h e =
+    chosen_keeps script (λ queue. Event.Serve queue s.clock s.clock) s t (next_queue (priorities_of script.queues) s.course.waiting) (λ n. tt) valid h e
+
+pub node_keeps : (script : Script) (name : List ℕ) (s t : Serial) → IsScript script → IsOnTime script s → node_turn script name s ≡ Some t → IsOnTime script t
+node_keeps script name s t valid h e = chosen_keeps script (λ number. Event.Apply number) s t (node_number script name) (λ n. tt) valid h e
 
 -- where a turn has acted or not
 pub after_cases : (P : Serial → Type 0) (s t : Serial) (o : Option Serial) (acted : Bool) → P s → ((u : Serial) → o ≡ Some u → P u) → after_turn (false, s) o ≡ (acted, t) → P t
@@ -143,23 +152,29 @@ client_on_time script client s t acted valid h e =
 pub master_on_time : (script : Script) (s t : Serial) (acted : Bool) → IsScript script → IsOnTime script s → after_turn (false, s) (master_turn script s) ≡ (acted, t) → IsOnTime script t
 master_on_time script s t acted valid h e = after_cases (IsOnTime script) s t (master_turn script s) acted h (λ u f. master_keeps script s u valid h f) e
 
+pub node_on_time : (script : Script) (name : List ℕ) (s t : Serial) (acted : Bool) → IsScript script → IsOnTime script s → after_turn (false, s) (node_turn script name s) ≡ (acted, t) → IsOnTime script t
+node_on_time script name s t acted valid h e = after_cases (IsOnTime script) s t (node_turn script name s) acted h (λ u f. node_keeps script name s u valid h f) e
+
 -- ---- a replay
 
-pub sound_now : (script : Script) (replay : Replay) (s : Serial) → serial_of replay ≡ s → IsOnTime script s → replay.waiting.priorities ≡ priorities_of script.queues → IsSound script replay
-sound_now script replay s e h priorities =
+pub sound_now : (script : Script) (replay : Replay) (s : Serial) → serial_of replay ≡ s → IsOnTime script s → replay.waiting.priorities ≡ priorities_of script.queues
+    → AreNodesOf script replay.nodes.items → IsSound script replay
+sound_now script replay s e h priorities nodes =
     let time = subst (IsOnTime script) (sym e) h in
-    record { lawful = time.lawful; priorities = priorities; clock = time.clock }
+    record { lawful = time.lawful; priorities = priorities; nodes = nodes; clock = time.clock }
 
 pub on_time : (script : Script) (replay : Replay) → IsSound script replay → IsOnTime script (serial_of replay)
 on_time script replay sound = record { lawful = sound.lawful; clock = sound.clock }
 
 pub sound_by_client : (script : Script) (client : ℕ) (before now : Replay) (acted : Bool) → IsScript script → IsSound script before
-    → after_turn (false, serial_of before) (client_turn script client (serial_of before)) ≡ (acted, serial_of now) → now.waiting.priorities ≡ before.waiting.priorities → IsSound script now
-sound_by_client script client before now acted valid sound e same =
+    → after_turn (false, serial_of before) (client_turn script client (serial_of before)) ≡ (acted, serial_of now) → now.waiting.priorities ≡ before.waiting.priorities → now.nodes ≡ before.nodes
+    → IsSound script now
+sound_by_client script client before now acted valid sound e same stay =
     sound_now script now (serial_of now) refl (client_on_time script client (serial_of before) (serial_of now) acted valid (on_time script before sound) e) (same ∙ sound.priorities)
+    (ap (λ (v : Vec Node Global). map origin_of v.items) stay ∙ sound.nodes)
 
 pub client_sound_if : (result : Result Bool OutOfMemory) (script : Script) (client : ℕ) (before now : Replay) → IsScript script → IsSound script before
     → IfOk result (λ acted. after_turn (false, serial_of before) (client_turn script client (serial_of before)) ≡ (acted, serial_of now)) → OnOk result (now.waiting.priorities ≡ before.waiting.priorities)
-    → OnOk result (IsSound script now)
-client_sound_if (Ok acted) script client before now valid sound e same = sound_by_client script client before now acted valid sound e same
-client_sound_if (Err fault) script client before now valid sound e same = tt
+    → OnOk result (now.nodes ≡ before.nodes) → OnOk result (IsSound script now)
+client_sound_if (Ok acted) script client before now valid sound e same stay = sound_by_client script client before now acted valid sound e same stay
+client_sound_if (Err fault) script client before now valid sound e same stay = tt

@@ -2,6 +2,7 @@
 -- where the batches are a serial history of the script and the world is the one after them.
 use Rattle.std.specs.Prelude.{◌≡◌, ◌<◌, ◌≤◌, ℕ, Bool, List, [], ◌∷◌, ◌++◌, map, length, Option, Some, None, slice_get}
 use Rattle.std.specs.List.{AllByRecursion}
+use Rattle.std.specs.Option.{option_map}
 use Rattle.publication.specs.LinkMeanings.{LinkMeaning}
 use Rattle.session_law.specs.declared.task_ends.TaskEnd.{TaskEnd}
 use Rattle.scripts.specs.declared.queues.QueueSpec.{QueueSpec}
@@ -10,7 +11,7 @@ use Rattle.session_law.specs.declared.batches.Batch.{Batch}
 use Rattle.session_law.specs.declared.batches.Entry.{Entry}
 use Rattle.session_law.specs.declared.worlds.Stepped.{Stepped}
 use Rattle.session_law.specs.declared.worlds.World.{World}
-use Rattle.session_law.specs.Histories.{AreApart, IsKept, IsOwn, Queued, queued_of, tasks_at}
+use Rattle.session_law.specs.Histories.{AreApart, IsKept, IsOwn, Queued, SteppedBatch, queued_of, tasks_at}
 use Rattle.session_law.specs.Publications.{cut_by}
 use Rattle.session_law.specs.BatchSteps.{BatchInput, batch_step}
 use Rattle.session_law.specs.Worlds.{first_world}
@@ -36,6 +37,16 @@ abbrev pub last_entries : List Batch → List Entry
 last_entries [] = []
 last_entries (batch ∷ []) = batch.entries
 last_entries (batch ∷ next ∷ more) = last_entries (next ∷ more)
+
+abbrev pub last_batch : List Batch → Option Batch
+last_batch [] = None
+last_batch (batch ∷ []) = Some batch
+last_batch (batch ∷ next ∷ more) = last_batch (next ∷ more)
+
+-- the last batch, as it was stepped
+abbrev pub last_stepped : Chronicle → Option SteppedBatch
+last_stepped book =
+    option_map (λ b. record { batch = b; stepped = record { result = b.result; ends = book.ends }; world = book.world }) (last_batch book.batches)
 
 -- ---- one batch more
 

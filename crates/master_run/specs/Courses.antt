@@ -1,4 +1,4 @@
--- The course of a session: all that the master, its words and its clients know between two events.
+-- The course of a session: all that the master, its words, its clients and its nodes know between two events.
 use Rattle.std.specs.Prelude.{ℕ, List, [], length, map, replicate, slice_index_or}
 use Rattle.scripts.specs.declared.whole_script.Script.{Script}
 use Rattle.scripts.specs.declared.task_id.TaskId.{TaskId}
@@ -7,6 +7,7 @@ use Rattle.task_words.specs.Cells.{cell_at}
 use Rattle.task_words.specs.Words.{TaskTable, vacant_table, word_at}
 use Rattle.master_intake.specs.declared.entries.Waiting.{Waiting}
 use Rattle.master_run.specs.Books.{Chronicle, first_book}
+use Rattle.master_run.specs.Nodes.{NodeCourse, fresh_nodes}
 
 pub record Course : Type 0 where
   -- the batches so far, and the world after them
@@ -21,6 +22,8 @@ pub record Course : Type 0 where
   pub positions : List ℕ
   -- for each client, the greatest number of a batch that holds a task whose end it awaited; 0 if none
   pub awaited : List ℕ
+  -- each node of the script, in its order
+  pub nodes : List NodeCourse
 
 -- ---- at first
 
@@ -39,6 +42,7 @@ first_course script = record {
   ats = map (λ steps. replicate steps 0) (lanes_of script);
   positions = zeros_of script;
   awaited = zeros_of script;
+  nodes = fresh_nodes script;
 }
 
 -- ---- of a client and a step

@@ -1,11 +1,13 @@
 -- The events of a session: each carries its readings, and acts on a course or can't. No rule asks where the readings come
 -- from, or in which order.
-use Rattle.std.specs.Prelude.{ℕ, List, [], ◌∷◌, Option, Some, None, if◌then◌else◌}
+use Rattle.std.specs.Prelude.{ℕ, List, [], ◌∷◌, Option, Some, None, slice_get, slice_set, if◌then◌else◌}
+use Rattle.std.specs.Option.{option_map}
 use Rattle.scripts.specs.declared.whole_script.Script.{Script}
 use Rattle.scripts.specs.declared.task_id.TaskId.{TaskId}
 use Rattle.task_words.specs.Words.{IsWithin, TaskTable, expiry_of, timed_by, word_at}
 use Rattle.master_intake.specs.declared.entries.Waiting.{Waiting}
 use Rattle.master_run.specs.Courses.{Course}
+use Rattle.master_run.specs.Nodes.{applied_node}
 use Rattle.master_run.specs.Servings.{has_some_in, served}
 use Rattle.master_run.specs.Steps.{performed}
 
@@ -14,6 +16,8 @@ pub data Event : Type 0 where
   Perform : (client at : ℕ) → Event
   -- the master serves a queue in which something waits, which is taken at a reading and committed at another
   Serve : (queue at commit : ℕ) → Event
+  -- a node, by its number, applies the first commit that it has left
+  Apply : (node : ℕ) → Event
   -- a task times out at a reading, where it waits and its deadline is at most that
   Expire : (id : TaskId) (reading : ℕ) → Event
 
@@ -26,10 +30,16 @@ abbrev pub all_expired : ℕ → List Waiting → TaskTable → TaskTable
 all_expired reading [] tasks = tasks
 all_expired reading (first ∷ more) tasks = all_expired reading more (expired first.entry.id reading tasks)
 
+-- a node applies the first commit that it has left; none where it has none
+abbrev pub applied : Script → ℕ → Course → Option Course
+applied script number k =
+    option_map (λ has. record k { nodes = slice_set k.nodes number has }) (applied_node script (slice_get script.nodes number) (slice_get k.nodes number))
+
 -- what an event makes of a course; none where it can't act
 abbrev pub event : Script → Event → Course → Option Course
 event script (Perform client at) k = performed script client at k
 event script (Serve queue at commit) k = if has_some_in queue k.waiting then Some (served script queue at commit k) else None
+event script (Apply node) k = applied script node k
 event script (Expire id reading) k = Some (record k { tasks = expired id reading k.tasks })
 
 -- ---- what the code of this asks

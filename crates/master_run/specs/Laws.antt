@@ -15,6 +15,7 @@ use Rattle.master_run.specs.SoFar.{IsLawfulSoFar}
 abbrev pub IsReadable : Event → Type 0
 IsReadable (Event.Perform client at) = Unit {0}
 IsReadable (Event.Serve queue at commit) = Unit {0}
+IsReadable (Event.Apply node) = Unit {0}
 IsReadable (Event.Expire id reading) = reading < 2 ^ 43 - 1
 
 -- whichever event it is, whatever its readings are
@@ -24,4 +25,5 @@ EventsKeepLawful =
 
 -- the session that is read off a course at rest is lawful, as far as it can be told
 abbrev pub RestIsLawful : Type 0
-RestIsLawful = (script : Script) (k : Course) → IsBuilt script → IsLawfulSoFar script k → IsAtRest script k → IsSerialSession script (session_of script k)
+RestIsLawful =
+    (script : Script) (k : Course) → IsScript script → IsBuilt script → IsLawfulSoFar script k → IsAtRest script k → IsSerialSession script (session_of script k)

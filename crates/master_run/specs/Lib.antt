@@ -1,3 +1,4 @@
+pub mod Appliers
 pub mod Books
 pub mod Conclusions
 pub mod Courses
@@ -6,7 +7,9 @@ pub mod Events
 pub mod Laws
 pub mod Ledgers
 pub mod Linked
-pub mod MemoryLinks
+pub mod NodeEnds
+pub mod Nodes
+pub mod Passing
 pub mod Plans
 pub mod Reaches
 pub mod Replays

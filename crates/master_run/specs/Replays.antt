@@ -2,6 +2,7 @@
 use Rattle.std.specs.Prelude.{◌≡◌, ◌≢◌, ◌<◌, ◌≤◌, ◌-◌, ◌^◌, ℕ, true, List, [], length, Option}
 use Rattle.std.specs.List.{AllByRecursion}
 use Rattle.std.specs.Option.{option_map}
+use Rattle.node_apply.specs.NodeLinks.{NodeLinkView}
 use Rattle.publication.specs.LinkMeanings.{LinkMeaning}
 use Rattle.scripts.specs.declared.whole_script.Script.{Script}
 use Rattle.executors.specs.declared.tasks.Task.{Task}
@@ -11,8 +12,11 @@ use Rattle.task_words.specs.Cells.{IsInside}
 use Rattle.task_words.specs.Words.{IsWithin, size_of}
 use Rattle.master_intake.specs.Waitings.{priorities_of}
 use Rattle.master_run.specs.declared.replays.Replay.{Replay}
+use Rattle.master_run.specs.Appliers.{AreNodesOf, courses_of}
 use Rattle.master_run.specs.Courses.{Course, id_at, next_at, word_of}
 use Rattle.master_run.specs.Events.{CanExpire, all_expired}
+use Rattle.master_run.specs.Linked.{IsLinked}
+use Rattle.master_run.specs.Passing.{ArePassed, meanings_of}
 use Rattle.master_run.specs.Sendings.{AreLinksOf, HaveRoom}
 use Rattle.master_run.specs.Serials.{Serial, at_clock}
 use Rattle.master_run.specs.SoFar.{IsLawfulSoFar}
@@ -26,6 +30,7 @@ course_of replay = record {
   ats = replay.ats;
   positions = replay.positions;
   awaited = replay.awaited;
+  nodes = courses_of replay.nodes.items;
 }
 
 abbrev pub serial_of : Replay → Serial
@@ -35,7 +40,13 @@ serial_of replay = record { course = course_of replay; clock = replay.clock }
 pub record IsSound (script : Script) (replay : Replay) : Type 0 where
   pub lawful : IsLawfulSoFar script (course_of replay)
   pub priorities : replay.waiting.priorities ≡ priorities_of script.queues
+  pub nodes : AreNodesOf script replay.nodes.items
   pub clock : replay.clock ≤ 2 ^ 43 - 2
+
+-- its links go to its nodes, and have passed on all that these were handed
+pub record AreEnds (script : Script) (replay : Replay) (links : List NodeLinkView) : Type 0 where
+  pub linked : IsLinked script (course_of replay) (meanings_of links)
+  pub passed : ArePassed links replay.nodes.items
 
 -- ---- the steps of a client
 

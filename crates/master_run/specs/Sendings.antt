@@ -1,6 +1,6 @@
 -- The links to a script's nodes, and what is sent over them for a batch: nothing where it is settled, and else the
 -- proposed state. The clock is read once, and only where that is committed.
-use Rattle.std.specs.Prelude.{◌≡◌, ℕ, ◌<◌, ◌^◌, Bool, true, List, map, IsTrue}
+use Rattle.std.specs.Prelude.{◌≡◌, ℕ, ◌+◌, ◌<◌, ◌≤◌, ◌^◌, Bool, true, List, Option, Some, None, map, IsTrue}
 use Rattle.std.specs.List.{AllByRecursion}
 use Rattle.publication.specs.Deliveries.{CanTake, IsDelivery, does_commit}
 use Rattle.publication.specs.LinkMeanings.{LinkMeaning}
@@ -13,10 +13,18 @@ use Rattle.master_run.specs.declared.plans.Proposal.{Proposal}
 use Rattle.master_run.specs.declared.sendings.Sent.{Sent}
 use Rattle.master_run.specs.Touching.{AgreeOutsideThese}
 
--- one link for each node of a script, in its order, and each holds what its node last accepted
+-- the state to which a last message led, if there was one, was proposed; the proposals are those so far
+abbrev pub WasProposed : ℕ → Option ℕ → Type 0
+WasProposed proposals None = Unit {0}
+WasProposed proposals (Some id) = id ≤ proposals + 1
+
+-- One link for each node of a script, in its order. Each holds what its node last accepted, has counted the publications
+-- that were sent to it, and carried no state that isn't proposed yet.
 pub record AreLinksOf (nodes : List ScriptNode) (world : World) (links : List LinkMeaning) : Type 0 where
   pub names : map (λ l. l.name) links ≡ map (λ n. n.name) nodes
   pub held : map (λ l. l.held) links ≡ map (λ n. n.accepted) world.nodes
+  pub sent : map (λ l. l.sent) links ≡ map (λ n. n.sent) world.nodes
+  pub last : AllByRecursion (λ l. WasProposed world.proposals l.last) links
 
 abbrev pub HaveRoom : List LinkMeaning → Type 0
 HaveRoom links = AllByRecursion (λ l. 0 < l.room) links

@@ -1,8 +1,10 @@
 -- The serial rule: a counter for a clock, turns that name events, a schedule and rounds of turns. It leaves nothing open,
 -- so that a script has one session. The rule is this project's own.
-use Rattle.std.specs.Prelude.{ℕ, zero, suc, ◌+◌, Bool, true, false, List, [], ◌∷◌, ◌++◌, fold, length, map, Option, Some, None, option_and_then, unwrap_or}
+use Rattle.std.specs.Prelude.{ℕ, zero, suc, ◌+◌, ◌*◌, Bool, true, false, List, [], ◌∷◌, ◌++◌, fold, length, map, bytes_eq, Option, Some, None, option_and_then, unwrap_or}
+use Rattle.std.specs.List.{position}
 use Rattle.std.specs.Option.{option_map}
 use Rattle.scripts.specs.declared.whole_script.Script.{Script}
+use Rattle.scripts.specs.declared.whole_script.ScriptNode.{ScriptNode}
 use Rattle.scripts.specs.declared.whole_script.ScriptTurn.{ScriptTurn}
 use Rattle.scripts.specs.declared.whole_script.ScriptTurn.TheVariants as turn
 use Rattle.scripts.specs.declared.steps.Step.{Step}
@@ -12,6 +14,7 @@ use Rattle.session_law.specs.DueTimes.{due}
 use Rattle.master_intake.specs.Waitings.{next_queue, priorities_of}
 use Rattle.master_run.specs.Courses.{Course, first_course}
 use Rattle.master_run.specs.Events.{Event, all_expired, event}
+use Rattle.master_run.specs.Nodes.{left_in}
 use Rattle.master_run.specs.Sessions.{session_of}
 use Rattle.master_run.specs.Steps.{next_step_of}
 use Rattle.master_run.specs.StepsLeft.{always, steps_left}
@@ -48,11 +51,22 @@ master_turn script s =
     option_and_then (λ queue. option_map (at_clock s.clock) (event script (Event.Serve queue s.clock s.clock) s.course))
     (next_queue (priorities_of script.queues) s.course.waiting)
 
--- what a turn makes of it; none where it can't act. A node's turn has nothing to do yet.
+-- the number of the node of a name, if there is one
+abbrev pub node_number : Script → List ℕ → Option ℕ
+node_number script name = position (λ n. bytes_eq name n.name) script.nodes
+
+-- a node by its number, or by its name, applies the first commit that it has left
+abbrev pub turn_at : Script → ℕ → Serial → Option Serial
+turn_at script number s = option_map (at_clock s.clock) (event script (Event.Apply number) s.course)
+
+abbrev pub node_turn : Script → List ℕ → Serial → Option Serial
+node_turn script name s = option_and_then (λ number. turn_at script number s) (node_number script name)
+
+-- what a turn makes of it; none where it can't act
 abbrev pub turn_of : Script → ScriptTurn → Serial → Option Serial
 turn_of script (turn.Client client) s = client_turn script client s
 turn_of script turn.Master s = master_turn script s
-turn_of script (turn.Node name) s = None
+turn_of script (turn.Node name) s = node_turn script name s
 
 -- ---- lists of turns
 
@@ -75,9 +89,12 @@ abbrev pub client_turns : ℕ → List (List Step) → List ScriptTurn
 client_turns client [] = []
 client_turns client (steps ∷ more) = turn.Client client ∷ client_turns (client + 1) more
 
+abbrev pub node_turns : List ScriptNode → List ScriptTurn
+node_turns nodes = map (λ n. turn.Node n.name) nodes
+
 -- a round: a turn for each client in order, one for the master, one for each node in the script's order
 abbrev pub round_turns : Script → List ScriptTurn
-round_turns script = client_turns 0 script.clients ++ (turn.Master ∷ map (λ n. turn.Node n.name) script.nodes)
+round_turns script = client_turns 0 script.clients ++ (turn.Master ∷ node_turns script.nodes)
 
 -- ---- to the end
 
@@ -94,10 +111,12 @@ unfoldable pub rest : Script → ℕ → Serial → Serial
 rest script zero s = s
 rest script (suc more) s = unwrap_or (option_map (rest script more) (go_on script s)) s
 
--- what remains to be done: each step that is left counts twice, as it may leave an entry that waits. Every turn that acts
--- makes it less, so with one round more than that no round is wanting.
+-- what remains to be done. An entry that waits may hand a commit to each node, and counts for more than these; a step may
+-- leave an entry that waits, and counts for more than that. Every turn that acts makes it less, so with one round more
+-- than that no round is wanting.
 abbrev pub load : Script → Course → ℕ
-load script k = steps_left always script.clients k.positions + steps_left always script.clients k.positions + length k.waiting
+load script k =
+    (length script.nodes + 2) * steps_left always script.clients k.positions + (length script.nodes + 1) * length k.waiting + left_in k.nodes
 
 abbrev pub first_serial : Script → Serial
 first_serial script = at_clock 0 (first_course script)

@@ -1,6 +1,6 @@
--- What the master does: it serves a queue. It takes all that waits there, and what hasn't timed out is a batch. That a
--- batch takes all tasks of its queue, and that those are left out that timed out, are Elasticsearch's rules
--- (`MasterService`).
+-- What the master does: it serves a queue. It takes all that waits there, and what hasn't timed out is a batch. Its nodes
+-- are handed the commit of a batch that is published. That a batch takes all tasks of its queue, and that those are left
+-- out that timed out, are Elasticsearch's rules (`MasterService`).
 use Rattle.std.specs.Prelude.{◌<◌, ℕ, ◌+◌, Bool, List, [], ◌∷◌, ◌++◌, length, IsTrue}
 use Rattle.std.specs.List.{list_any}
 use Rattle.scripts.specs.declared.whole_script.Script.{Script}
@@ -15,9 +15,10 @@ use Rattle.task_words.specs.Words.{IsWithin, TaskTable, acquired_by, is_open, is
 use Rattle.master_intake.specs.declared.entries.Waiting.{Waiting}
 use Rattle.master_intake.specs.declared.entries.WaitingTask.{WaitingTask}
 use Rattle.master_intake.specs.Waitings.{entries_of, is_in, left_by, taken_from}
-use Rattle.master_run.specs.Books.{added}
+use Rattle.master_run.specs.Books.{added, last_stepped}
 use Rattle.master_run.specs.Courses.{Course, id_at}
 use Rattle.master_run.specs.Endings.{code_of}
+use Rattle.master_run.specs.Nodes.{handed_each}
 
 -- ---- the tasks of a batch
 
@@ -51,12 +52,16 @@ ended_all batch (entry ∷ entries) (end ∷ ends) tasks =
 
 -- ---- the queue
 
--- the batch runs, and its tasks end; a batch without tasks is none
+-- the batch runs, its tasks end, and each node is handed its commit or not; a batch without tasks is none
 abbrev pub ran : Script → ℕ → ℕ → ℕ → Course → List Entry → Course
 ran script queue at commit k [] = k
 ran script queue at commit k (first ∷ more) =
     let book = added script k.book queue (first ∷ more) at commit in
-    record k { book = book; tasks = ended_all (length book.batches) (first ∷ more) book.ends k.tasks }
+    record k {
+      book = book;
+      tasks = ended_all (length book.batches) (first ∷ more) book.ends k.tasks;
+      nodes = handed_each script (last_stepped book) script.nodes k.nodes;
+    }
 
 -- what a batch of all that waits in a queue gets
 abbrev pub got_from : ℕ → Course → Gathered

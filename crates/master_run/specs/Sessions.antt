@@ -1,17 +1,25 @@
--- The session that one reads off a course: its batches, its last state, and what the words tell of each submit.
-use Rattle.std.specs.Prelude.{◌≡◌, ◌<◌, ◌≤◌, ℕ, List, [], ◌∷◌, Option, Some, None, length, slice_get}
+-- The session that one reads off a course: its batches, its last state, what the words tell of each submit, and what its
+-- nodes did.
+use Rattle.std.specs.Prelude.{◌≡◌, ◌<◌, ◌≤◌, ℕ, List, [], ◌∷◌, ◌++◌, Option, Some, None, length, map, slice_get}
 use Rattle.scripts.specs.declared.whole_script.Script.{Script}
+use Rattle.scripts.specs.declared.whole_script.ScriptNode.{ScriptNode}
 use Rattle.scripts.specs.declared.steps.Step.{Step}
+use Rattle.session_law.specs.declared.node_records.NodeRec.{NodeRec}
 use Rattle.session_law.specs.declared.replies.Reply.{Reply}
 use Rattle.session_law.specs.declared.sessions.Session.{Session}
 use Rattle.session_law.specs.declared.task_ends.TaskEnd.{TaskEnd}
 use Rattle.session_law.specs.Collected.{collected}
 use Rattle.session_law.specs.Endings.{task_timeout_of}
+use Rattle.session_law.specs.NodeRecords.{first_of}
 use Rattle.session_law.specs.ScriptSteps.{NumberedStep}
+use Rattle.session_law.specs.Views.{views_of}
 use Rattle.task_words.specs.Cells.{IsInside}
 use Rattle.task_words.specs.Words.{IsWithin, TaskTable}
 use Rattle.master_run.specs.Courses.{Course, id_at, moment_at, word_of}
 use Rattle.master_run.specs.Endings.{end_of_word}
+use Rattle.master_run.specs.Nodes.{NodeCourse}
+
+-- ---- replies
 
 -- what is told where a task has ended
 abbrev pub reply_by : ℕ → ℕ → ℕ → Option TaskEnd → List Reply
@@ -26,6 +34,25 @@ reply_at tasks ats s =
 abbrev pub replies_of : Script → TaskTable → List (List ℕ) → List Reply
 replies_of script tasks ats = collected script (reply_at tasks ats)
 
+-- ---- the nodes' records
+
+-- a node was handed what it has tried to apply, and what it has left
+abbrev pub record_by : Script → ScriptNode → NodeCourse → NodeRec
+record_by script node has = record {
+  node = node.name;
+  handed = map (λ a. a.to) has.applies ++ map (λ c. c.state.version) has.left;
+  first = (first_of script (Some node)).version;
+  applies = has.applies;
+  view = views_of has.state;
+}
+
+abbrev pub records_by : Script → List ScriptNode → List NodeCourse → List NodeRec
+records_by script [] nodes = []
+records_by script (_ ∷ _) [] = []
+records_by script (node ∷ more) (has ∷ others) = record_by script node has ∷ records_by script more others
+
+-- ---- the whole
+
 abbrev pub session_of : Script → Course → Session
 session_of script k = record {
   batches = k.book.batches;
@@ -33,7 +60,7 @@ session_of script k = record {
   acks = [];
   watches = [];
   reads = [];
-  nodes = [];
+  nodes = records_by script script.nodes k.nodes;
   last = k.book.world.state;
 }
 

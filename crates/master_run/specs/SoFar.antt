@@ -1,10 +1,12 @@
 -- A lawful beginning of a session: what holds of a course after every event, in whatever order events come and whatever
 -- their readings are. Each rule is said of the components alone that it reads, so that an event that leaves these alone
 -- keeps the rule as it is.
-use Rattle.std.specs.Prelude.{◌≡◌, ℕ, ◌<◌, Bool, true, false, not, ◌==◌, ◌&&◌, List, [], ◌∷◌, Option, Some, None, length, map, nat_lt, slice_get, IsTrue, is_some}
-use Rattle.std.specs.List.{AllByRecursion, list_any}
+use Rattle.std.specs.Prelude.{◌≡◌, ℕ, ◌<◌, Bool, true, false, not, ◌==◌, ◌&&◌, List, [], ◌∷◌, ◌++◌, Option, Some, None, filter, length, map, nat_lt, slice_get, IsTrue, is_some}
+use Rattle.std.specs.List.{AllByRecursion, AllZip, list_any}
+use Rattle.meta_state.specs.declared.cluster_state.ClusterState.{ClusterState}
 use Rattle.scripts.specs.declared.queues.QueueSpec.{QueueSpec}
 use Rattle.scripts.specs.declared.whole_script.Script.{Script}
+use Rattle.scripts.specs.declared.whole_script.ScriptNode.{ScriptNode}
 use Rattle.scripts.specs.declared.steps.Step.{Step}
 use Rattle.scripts.specs.declared.steps.Step.TheVariants.{Submit}
 use Rattle.scripts.specs.Scripts.{is_submit}
@@ -12,6 +14,7 @@ use Rattle.session_law.specs.declared.batches.Batch.{Batch}
 use Rattle.session_law.specs.declared.task_ends.TaskEnd.{TaskEnd}
 use Rattle.session_law.specs.Endings.{IsOver, does_await_task, task_timeout_of}
 use Rattle.session_law.specs.Histories.{IsApart, Queued, queued_of, step_at}
+use Rattle.session_law.specs.NodeRecords.{Commit, applies_from, commits_to, does_fail, first_of, last_of}
 use Rattle.session_law.specs.Outcomes.{batch_number_of, outcome_of}
 use Rattle.session_law.specs.ScriptSteps.{is_at, is_some_so}
 use Rattle.session_law.specs.SerialHistories.{HasSeen, seen_of}
@@ -23,6 +26,7 @@ use Rattle.master_intake.specs.Waitings.{taken_from}
 use Rattle.master_run.specs.Books.{Chronicle, IsKeptBook}
 use Rattle.master_run.specs.Courses.{Course, lanes_of, moment_at, next_at, seen_at, word_of}
 use Rattle.master_run.specs.Endings.{deadline_of, end_by}
+use Rattle.master_run.specs.Nodes.{NodeCourse}
 
 -- ---- how far a task is
 
@@ -169,6 +173,26 @@ pub record IsTold (script : Script) (waiting : List Waiting) (tasks : TaskTable)
   pub sizes : (queue : ℕ) → size_of tasks queue ≡ length (taken_from queue waiting)
   pub stopped : tasks.stopped ≡ false
 
+-- ---- recorded: each node took a first part of what the batches hand it, and has the rest left
+
+-- the states that a node has after its first one, where it takes these commits
+abbrev pub states_in : Script → List ℕ → List Commit → List ClusterState
+states_in script name commits = map (λ c. c.state) (filter (λ c. not (does_fail script name c)) commits)
+
+-- what a node has that took these commits
+pub record HasTaken (script : Script) (node : ScriptNode) (taken : List Commit) (has : NodeCourse) : Type 0 where
+  pub state : has.state ≡ last_of (first_of script (Some node)) (states_in script node.name taken)
+  pub place : has.place ≡ length (states_in script node.name taken)
+  pub applies : has.applies ≡ applies_from script node.name (first_of script (Some node)) taken
+
+pub record IsRecordedAt (script : Script) (batches : List Batch) (node : ScriptNode) (has : NodeCourse) : Type 0 where
+  pub taken : List Commit
+  pub handed : taken ++ has.left ≡ commits_to script batches node.name
+  pub took : HasTaken script node taken has
+
+abbrev pub IsRecordedSoFar : Script → List Batch → List NodeCourse → Type 0
+IsRecordedSoFar script batches nodes = AllZip (IsRecordedAt script batches) script.nodes nodes
+
 -- ---- all of them
 
 pub record IsLawfulSoFar (script : Script) (k : Course) : Type 0 where
@@ -178,3 +202,4 @@ pub record IsLawfulSoFar (script : Script) (k : Course) : Type 0 where
   pub passed : IsPassedSoFar script k.positions k.tasks
   pub ended : IsEndedSoFar script k.book.batches k.waiting k.tasks k.ats
   pub told : IsTold script k.waiting k.tasks
+  pub recorded : IsRecordedSoFar script k.book.batches k.nodes

@@ -2,13 +2,15 @@
 //! one thread.
 #![tactic(auto)]
 
+mod applier_lists;
 mod books;
 mod conclusions;
 mod endings;
 mod first_worlds;
 mod laws;
-mod memory_links;
 mod moments;
+mod node_openings;
+mod passing;
 mod plans;
 mod replays;
 mod replies;

@@ -1,28 +1,38 @@
-ghost use Rattle.std.specs.Prelude.{◌≡◌, false, IfOk, List, OnOk, map, slice_index_or};
+ghost use Rattle.std.specs.Prelude.{◌≡◌, [], false, IfOk, List, OnOk, map, slice_index_or};
 ghost use Rattle.std.specs.Option.{option_copied};
 ghost use Rattle.scripts.specs.Scripts.{IsScript};
 ghost use Rattle.session_law.specs.Histories.{IsOrdered, step_at};
-ghost use Rattle.publication.specs.LinkMeanings.{LinkMeaning};
-ghost use Rattle.master_run.specs.Books.{CanJoinAt, added};
-ghost use Rattle.master_run.specs.Courses.{lanes_of, next_at, zeros_of};
-ghost use Rattle.master_run.specs.Linked.{AreUsed, IsLinked};
+ghost use Rattle.session_law.specs.Worlds.{first_world};
+ghost use Rattle.node_apply.specs.NodeLinks.{NodeLinkView};
+ghost use Rattle.master_intake.specs.Waitings.{priorities_of};
+ghost use Rattle.master_run.specs.Appliers.{AreNodesOf, courses_of};
+ghost use Rattle.master_run.specs.Books.{CanJoinAt, added, last_stepped};
+ghost use Rattle.master_run.specs.Courses.{first_course, lanes_of, next_at, zeros_of};
+ghost use Rattle.master_run.specs.Linked.{AreUsed};
+ghost use Rattle.master_run.specs.NodeEnds.{links_for, room_for};
+ghost use Rattle.master_run.specs.Nodes.{handed_each};
+ghost use Rattle.master_run.specs.Passing.{ArePassed, AreTold, meanings_of};
 ghost use Rattle.master_run.specs.Sendings.{AreLinksOf};
-ghost use Rattle.master_run.specs.Serials.{after_turn, client_turn, first_serial, follow, master_turn, play, round_turns, turn_of};
+ghost use Rattle.master_run.specs.Serials.{after_turn, at_clock, client_turn, first_serial, follow, master_turn, node_number, node_turn, node_turns, play, round_turns, turn_at, turn_of};
 ghost use Rattle.master_run.specs.Sessions.{session_of};
-ghost use Rattle.master_run.specs.Replays.{CanAwait, CanSleep, CanStep, CanSubmit, IsOverLinks, IsSound, awaited_in, course_of, moved_in, serial_of, slept_in, submitted_in};
+ghost use Rattle.master_run.specs.Replays.{AreEnds, CanAwait, CanSleep, CanStep, CanSubmit, IsOverLinks, IsSound, awaited_in, course_of, moved_in, serial_of, slept_in, submitted_in};
 
+use crate::applier_lists::{apply_at, finish_all};
 use crate::books::{Book, BookEnd};
 use crate::endings::{deadline_of, due};
 use crate::moments::Moments;
+use crate::node_openings::{NodeEnds, open_ends};
+use crate::passing::pass_all;
 use crate::replies::collect;
 use crate::servings::{end_all, expire_all, gather};
 use edge_io::Frozen;
 use executors::Task;
 use master_intake::{Submission, Taken, WaitList};
-use plain_data::{Items, OutOfMemory};
+use node_apply::{NodeApplier, NodeLink};
+use plain_data::{Items, OutOfMemory, Text};
 use publication::Link;
 use scripts::{Goal, Script, ScriptTurn, Step, TaskId};
-use session_law::{Entry, Session, World};
+use session_law::{Entry, Session};
 use std::alloc::Global;
 use task_words::{PlainTasks, TaskPoll};
 
@@ -40,16 +50,35 @@ pub(crate) struct Replay {
     /// For each client the greatest number of a batch that holds a task whose end it has awaited; 0 if none.
     awaited: Items<u32>,
 
+    /// The nodes of the script, in its order.
+    nodes: Vec<NodeApplier>,
+
     /// The clock, in milliseconds.
     clock: u64,
 }
 
 impl Replay {
-    /// The replay of a script before its first turn.
-    pub(crate) fn first(alloc: Global, script: &Script) -> Result<Replay, OutOfMemory>
+    /// The replay of a script before its first turn, and the links to its nodes.
+    pub(crate) fn first(
+        alloc: Global,
+        script: &Script,
+    ) -> Result<(Replay, Vec<NodeLink>), OutOfMemory>
         requires { IsScript script.now }
-        ensures first { IfOk result (λ made. serial_of made ≡ first_serial script.now) }
-        ensures sound { IfOk result (IsSound script.now) }
+        ensures first { IfOk result (λ made. serial_of made.0 ≡ first_serial script.now) }
+        ensures sound { IfOk result (λ made. IsSound script.now made.0) }
+        ensures links { IfOk result (λ made. made.1.items ≡ links_for (room_for script.now) script.now.nodes (first_world script.now).nodes) }
+    {
+        let mut replay = Replay::unopened(alloc, script)?;
+        let NodeEnds { links, appliers } = open_ends(alloc, script, replay.book.world())?;
+        replay.nodes = appliers;
+        Ok((replay, links))
+    }
+
+    // That replay, whose nodes aren't opened yet.
+    fn unopened(alloc: Global, script: &Script) -> Result<Replay, OutOfMemory>
+        requires { IsScript script.now }
+        ensures first { IfOk result (λ made. serial_of made ≡ at_clock 0 (record (first_course script.now) { nodes = [] })) }
+        ensures priorities { IfOk result (λ made. made.waiting.priorities ≡ priorities_of script.now.queues) }
     {
         let lanes = lanes_of(alloc, script)?;
         let positions = zeros(alloc, script)?;
@@ -65,23 +94,24 @@ impl Replay {
             ats,
             positions,
             awaited,
+            nodes: Vec::new(alloc),
             clock: 0,
         })
     }
 
     /// The turns of the script's schedule.
-    pub(crate) fn follow<L: Link>(
+    pub(crate) fn follow(
         &mut self,
         alloc: Global,
         script: &Script,
-        links: &mut [L],
+        links: &mut [NodeLink],
     ) -> Result<(), OutOfMemory>
         requires script { IsScript script.now }
         requires sound { IsSound script.now self.old }
-        requires linked { IsLinked script.now (course_of self.old) (map L.meaning links.old) }
+        requires ends { AreEnds script.now self.old links.old }
         ensures turns { OnOk result (serial_of self.new ≡ follow script.now script.now.schedule (serial_of self.old)) }
         ensures sound { OnOk result (IsSound script.now self.new) }
-        ensures linked { OnOk result (IsLinked script.now (course_of self.new) (map L.meaning links.new)) }
+        ensures ends { OnOk result (AreEnds script.now self.new links.new) }
     {
         for turn in script.schedule.as_slice() {
             let _acted = self.turn(alloc, script, links, turn)?;
@@ -89,20 +119,20 @@ impl Replay {
         Ok(())
     }
 
-    /// One round: a turn for each client in order, one for the master, and one for each node, which has nothing to do. It
-    /// answers whether a turn acted.
-    pub(crate) fn round<L: Link>(
+    /// One round: a turn for each client in order, one for the master, and one for each node in order. It answers whether a
+    /// turn acted.
+    pub(crate) fn round(
         &mut self,
         alloc: Global,
         script: &Script,
-        links: &mut [L],
+        links: &mut [NodeLink],
     ) -> Result<bool, OutOfMemory>
         requires script { IsScript script.now }
         requires sound { IsSound script.now self.old }
-        requires linked { IsLinked script.now (course_of self.old) (map L.meaning links.old) }
+        requires ends { AreEnds script.now self.old links.old }
         ensures round { IfOk result (λ acted. play script.now (round_turns script.now) (false, serial_of self.old) ≡ (acted, serial_of self.new)) }
         ensures sound { OnOk result (IsSound script.now self.new) }
-        ensures linked { OnOk result (IsLinked script.now (course_of self.new) (map L.meaning links.new)) }
+        ensures ends { OnOk result (AreEnds script.now self.new links.new) }
     {
         let mut acted = false;
         let mut client: u32 = 0;
@@ -115,28 +145,28 @@ impl Replay {
         if self.master_turn(alloc, script, links)? {
             acted = true;
         }
-        Ok(acted)
+        self.nodes_round(script, acted)
     }
 
     /// A turn: it answers whether it acted.
-    fn turn<L: Link>(
+    fn turn(
         &mut self,
         alloc: Global,
         script: &Script,
-        links: &mut [L],
+        links: &mut [NodeLink],
         turn: &ScriptTurn,
     ) -> Result<bool, OutOfMemory>
         requires script { IsScript script.now }
         requires sound { IsSound script.now self.old }
-        requires linked { IsLinked script.now (course_of self.old) (map L.meaning links.old) }
+        requires ends { AreEnds script.now self.old links.old }
         ensures turn { IfOk result (λ acted. after_turn (false, serial_of self.old) (turn_of script.now turn.now (serial_of self.old)) ≡ (acted, serial_of self.new)) }
         ensures sound { OnOk result (IsSound script.now self.new) }
-        ensures linked { OnOk result (IsLinked script.now (course_of self.new) (map L.meaning links.new)) }
+        ensures ends { OnOk result (AreEnds script.now self.new links.new) }
     {
         match turn {
             ScriptTurn::Client(client) => self.client_turn(alloc, script, *client),
             ScriptTurn::Master => self.master_turn(alloc, script, links),
-            ScriptTurn::Node(_) => Ok(false),
+            ScriptTurn::Node(name) => self.node_turn(script, name),
         }
     }
 
@@ -153,7 +183,7 @@ impl Replay {
         requires sound { IsSound script.now self.old }
         ensures turn { IfOk result (λ acted. after_turn (false, serial_of self.old) (client_turn script.now client (serial_of self.old)) ≡ (acted, serial_of self.new)) }
         ensures sound { OnOk result (IsSound script.now self.new) }
-        ensures linked { OnOk result ((links : List LinkMeaning) → IsLinked script.now (course_of self.old) links → IsLinked script.now (course_of self.new) links) }
+        ensures ends { OnOk result ((links : List NodeLinkView) → AreEnds script.now self.old links → AreEnds script.now self.new links) }
     {
         self.perform_next(alloc, script, client)
     }
@@ -169,6 +199,7 @@ impl Replay {
         requires sound { IsSound script.now self.old }
         ensures turn { IfOk result (λ acted. after_turn (false, serial_of self.old) (client_turn script.now client (serial_of self.old)) ≡ (acted, serial_of self.new)) }
         ensures priorities { OnOk result (self.new.waiting.priorities ≡ self.old.waiting.priorities) }
+        ensures nodes { OnOk result (self.new.nodes ≡ self.old.nodes) }
     {
         match step_of(script, client, self.next_of(client)) {
             Some(
@@ -249,6 +280,7 @@ impl Replay {
         requires { CanAwait self.old client earlier }
         ensures turn { after_turn (false, serial_of self.old) (awaited_in self.old client earlier) ≡ (result, serial_of self.new) }
         ensures waiting { self.new.waiting ≡ self.old.waiting }
+        ensures nodes { self.new.nodes ≡ self.old.nodes }
     {
         let id = TaskId {
             client,
@@ -279,18 +311,18 @@ impl Replay {
 
     /// The master's turn: it takes all that waits in one queue, and what hasn't timed out is a batch. It does nothing where
     /// nothing waits.
-    fn master_turn<L: Link>(
+    fn master_turn(
         &mut self,
         alloc: Global,
         script: &Script,
-        links: &mut [L],
+        links: &mut [NodeLink],
     ) -> Result<bool, OutOfMemory>
         requires script { IsScript script.now }
         requires sound { IsSound script.now self.old }
-        requires linked { IsLinked script.now (course_of self.old) (map L.meaning links.old) }
+        requires ends { AreEnds script.now self.old links.old }
         ensures turn { IfOk result (λ acted. after_turn (false, serial_of self.old) (master_turn script.now (serial_of self.old)) ≡ (acted, serial_of self.new)) }
         ensures sound { OnOk result (IsSound script.now self.new) }
-        ensures linked { OnOk result (IsLinked script.now (course_of self.new) (map L.meaning links.new)) }
+        ensures ends { OnOk result (AreEnds script.now self.new links.new) }
     {
         let Some(Taken { queue, waiting }) = self.waiting.take(&mut self.tasks)? else {
             return Ok(false);
@@ -300,7 +332,7 @@ impl Replay {
         if entries.as_slice().is_empty() {
             return Ok(true);
         }
-        self.add_batch(script, queue, entries, links)?;
+        self.run_batch(script, queue, entries, links)?;
         end_all(
             &mut self.tasks,
             batch,
@@ -308,6 +340,31 @@ impl Replay {
             self.book.ends(),
         );
         Ok(true)
+    }
+
+    /// Entries of a queue are added to the book as a batch, and each node is handed its commit, if there is one.
+    fn run_batch(
+        &mut self,
+        script: &Script,
+        number: u32,
+        entries: Vec<Entry>,
+        links: &mut [NodeLink],
+    ) -> Result<(), OutOfMemory>
+        requires script { IsScript script.now }
+        requires order { IsOrdered script.now self.old.book.batches }
+        requires joins { CanJoinAt script.now self.old.book number entries.items }
+        requires over { IsOverLinks script.now self.old (meanings_of links.old) }
+        requires passed { ArePassed links.old self.old.nodes.items }
+        requires nodes { AreNodesOf script.now self.old.nodes.items }
+        ensures run { OnOk result (self.new ≡ record self.old { book = added script.now self.old.book number entries.items self.old.clock self.old.clock; nodes = self.new.nodes }) }
+        ensures handed { OnOk result (courses_of self.new.nodes.items ≡ handed_each script.now (last_stepped self.new.book) script.now.nodes (courses_of self.old.nodes.items)) }
+        ensures nodes { OnOk result (AreNodesOf script.now self.new.nodes.items) }
+        ensures links { OnOk result (AreLinksOf script.now.nodes self.new.book.world (meanings_of links.new)) }
+        ensures used { OnOk result (AreUsed (meanings_of links.old) (meanings_of links.new)) }
+        ensures passed { OnOk result (ArePassed links.new self.new.nodes.items) }
+    {
+        self.add_batch(script, number, entries, links)?;
+        pass_all(links, &mut self.nodes)
     }
 
     /// Entries of a queue are added to the book as a batch, at the moment of the clock.
@@ -326,20 +383,61 @@ impl Replay {
         ensures added { OnOk result (self.new ≡ record self.old { book = added script.now self.old.book number entries.items self.old.clock self.old.clock }) }
         ensures links { OnOk result (AreLinksOf script.now.nodes self.new.book.world (map L.meaning links.new)) }
         ensures used { OnOk result (AreUsed (map L.meaning links.old) (map L.meaning links.new)) }
+        ensures told { OnOk result (AreTold script.now (last_stepped self.new.book) (map L.meaning links.old) (map L.meaning links.new)) }
     {
         let clock = Frozen::new(self.clock);
         self.book
             .add(script, number, entries, self.clock, links, &clock)
     }
 
-    // ---- the end
+    // ---- a node
 
-    /// The world after its batches.
-    pub(crate) fn world(&self) -> &World
-        ensures { result.now ≡ self.now.book.world }
+    /// A turn for each node, in order; it answers whether one acted, or a turn before them.
+    fn nodes_round(&mut self, script: &Script, before: bool) -> Result<bool, OutOfMemory>
+        requires script { IsScript script.now }
+        requires sound { IsSound script.now self.old }
+        requires faults { script.now.faults ≡ [] }
+        ensures round { IfOk result (λ acted. play script.now (node_turns script.now.nodes) (before, serial_of self.old) ≡ (acted, serial_of self.new)) }
+        ensures sound { OnOk result (IsSound script.now self.new) }
+        ensures ends { OnOk result ((links : List NodeLinkView) → AreEnds script.now self.old links → AreEnds script.now self.new links) }
     {
-        self.book.world()
+        let mut acted = before;
+        for (number, _node) in script.nodes.as_slice().iter().enumerate() {
+            if self.turn_at(script, number)? {
+                acted = true;
+            }
+        }
+        Ok(acted)
     }
+
+    /// A node's turn, by its name.
+    fn node_turn(&mut self, script: &Script, name: &Text) -> Result<bool, OutOfMemory>
+        requires script { IsScript script.now }
+        requires sound { IsSound script.now self.old }
+        requires faults { script.now.faults ≡ [] }
+        ensures turn { IfOk result (λ acted. after_turn (false, serial_of self.old) (node_turn script.now name.now (serial_of self.old)) ≡ (acted, serial_of self.new)) }
+        ensures sound { OnOk result (IsSound script.now self.new) }
+        ensures ends { OnOk result ((links : List NodeLinkView) → AreEnds script.now self.old links → AreEnds script.now self.new links) }
+    {
+        match number_of(script, name) {
+            None => Ok(false),
+            Some(number) => self.turn_at(script, number),
+        }
+    }
+
+    /// The turn of the node of a number: it applies the first commit that it has left.
+    fn turn_at(&mut self, script: &Script, number: usize) -> Result<bool, OutOfMemory>
+        requires script { IsScript script.now }
+        requires sound { IsSound script.now self.old }
+        requires faults { script.now.faults ≡ [] }
+        ensures turn { IfOk result (λ acted. after_turn (false, serial_of self.old) (turn_at script.now number (serial_of self.old)) ≡ (acted, serial_of self.new)) }
+        ensures sound { OnOk result (IsSound script.now self.new) }
+        ensures ends { OnOk result ((links : List NodeLinkView) → AreEnds script.now self.old links → AreEnds script.now self.new links) }
+    {
+        apply_at(&mut self.nodes, number)
+    }
+
+    // ---- the end
 
     /// The session that the replay has made.
     pub(crate) fn finish(self, alloc: Global, script: &Script) -> Result<Session, OutOfMemory>
@@ -348,6 +446,7 @@ impl Replay {
         ensures { IfOk result (λ made. made ≡ session_of script.now (course_of self)) }
     {
         let replies = collect(alloc, script, &self.tasks, &self.ats)?;
+        let nodes = finish_all(alloc, self.nodes)?;
         let BookEnd { batches, last } = self.book.finish();
         Ok(Session {
             batches,
@@ -355,7 +454,7 @@ impl Replay {
             acks: Items::new(alloc),
             watches: Items::new(alloc),
             reads: Items::new(alloc),
-            nodes: Items::new(alloc),
+            nodes,
             last,
         })
     }
@@ -400,4 +499,15 @@ fn step_of(script: &Script, client: u32, step: u32) -> Option<&Step>
     ensures { option_copied result ≡ step_at script.now client step }
 {
     script.clients.get(client as usize)?.get(step as usize)
+}
+
+/// The number of the node of a name, if there is one.
+fn number_of(script: &Script, name: &Text) -> Option<usize>
+    ensures { result ≡ node_number script.now name.now }
+{
+    script
+        .nodes
+        .as_slice()
+        .iter()
+        .position(|node| *name == node.name)
 }

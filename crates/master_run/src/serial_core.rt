@@ -1,16 +1,14 @@
-ghost use Rattle.std.specs.Prelude.{◌≡◌, ◌+◌, IfOk, OnOk, map};
+ghost use Rattle.std.specs.Prelude.{◌≡◌, ◌+◌, IfOk, OnOk};
 ghost use Rattle.scripts.specs.Built.{IsBuilt};
 ghost use Rattle.scripts.specs.Scripts.{IsScript};
-ghost use Rattle.master_run.specs.Linked.{IsLinked};
-ghost use Rattle.master_run.specs.Replays.{IsSound, course_of, serial_of};
+ghost use Rattle.master_run.specs.Replays.{AreEnds, IsSound, course_of, serial_of};
 ghost use Rattle.master_run.specs.Rests.{IsAtRest};
 ghost use Rattle.master_run.specs.SerialSessions.{IsSerialSession};
 ghost use Rattle.master_run.specs.Serials.{load, performed_all, replayed, rest};
 
-use crate::memory_links::open_links;
 use crate::replays::Replay;
+use node_apply::NodeLink;
 use plain_data::OutOfMemory;
-use publication::Link;
 use scripts::Script;
 use session_law::Session;
 use std::alloc::Global;
@@ -32,8 +30,7 @@ impl SerialCore {
         // Where the rounds end, nothing waits and no client has a step left.
         ensures rested { IsAtRest script.now (performed_all script.now).course }
     {
-        let mut replay = Replay::first(alloc, script)?;
-        let mut links = open_links(alloc, script, replay.world())?;
+        let (mut replay, mut links) = Replay::first(alloc, script)?;
         replay.follow(alloc, script, &mut links)?;
         perform_rounds(alloc, script, &mut replay, &mut links)?;
         replay.finish(alloc, script)
@@ -41,15 +38,15 @@ impl SerialCore {
 }
 
 /// Rounds, until one in which no turn acts.
-fn perform_rounds<L: Link>(
+fn perform_rounds(
     alloc: Global,
     script: &Script,
     replay: &mut Replay,
-    links: &mut [L],
+    links: &mut [NodeLink],
 ) -> Result<(), OutOfMemory>
     requires script { IsScript script.now }
     requires sound { IsSound script.now replay.old }
-    requires linked { IsLinked script.now (course_of replay.old) (map L.meaning links.old) }
+    requires ends { AreEnds script.now replay.old links.old }
     ensures rest { OnOk result (serial_of replay.new ≡ rest script.now (load script.now (course_of replay.old) + 1) (serial_of replay.old)) }
     ensures sound { OnOk result (IsSound script.now replay.new) }
 {

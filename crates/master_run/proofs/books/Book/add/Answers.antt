@@ -4,6 +4,7 @@ use Rattle.executors.specs.Kinds.{accepts}
 use Rattle.session_law.specs.declared.batches.Entry.{Entry}
 use Rattle.session_law.specs.Histories.{IsOrdered, tasks_at}
 use Rattle.master_run.specs.Books.{Chronicle, plan_for}
+use Rattle.master_run.specs.Rooms.{HasRoom}
 use Rattle.master_run.specs.Sendings.{AreLinksOf, IsSentFor}
 use Rattle.master_run.proofs.Adding.{added_if, can_send, joins_queue, links_if, order_if, reached_if}
 use Rattle.master_run.proofs.Bounds.{ledger_has_room}
@@ -76,4 +77,8 @@ returns-clause-order g c =
 pub returns-clause-links : goal.returns-clause-links
 returns-clause-links g c =
     links_if c.note.result c.args.script.now c.args.queue c.args.entries.items c.args.at (g.C.Clock.may_read c.args.clock.now)
-    (map g.L.Link.meaning c.args.links.now) (map g.L.Link.meaning c.send_plan-sent.new.links) c.args.self.now c.note.new.self c.requires.script c.requires.links (returns-clause-added g c)
+    (map g.L.Link.meaning c.args.links.now) (map g.L.Link.meaning c.send_plan-sent.new.links) c.args.self.now c.note.new.self c.requires.script
+    (subst (λ (b : Chronicle). HasRoom b.world) c.self.view_is
+    (ledger_has_room c.args.script.now c.self.inside.batches c.self.inside.world c.requires.script
+    (subst (λ (b : Chronicle). IsOrdered c.args.script.now b.batches) (sym c.self.view_is) c.requires.order) c.self.invariant))
+    c.requires.links (returns-clause-added g c)

@@ -1,15 +1,19 @@
 use Rattle.std.proofs.Common.{◌≤◌, List, length, subst}
 use Rattle.scripts.specs.declared.steps.Step.{Step}
 use Rattle.master_run.specs.Replays.{serial_of}
-use Rattle.master_run.proofs.Resting.{round_acted, round_still_so}
+use Rattle.master_run.proofs.EndsKept.{round_if, round_led_to}
+use Rattle.master_run.proofs.NodeRounds.{acted_before, acted_now}
 use Rattle.master_run.proofs.replays.Replay.round.Goals as goal
+use Rattle.master_run.proofs.replays.Replay.round.Goals.{else-branch-2, then-branch-2}
 
-pub returns-then-branch-2-clause-round : goal.returns-then-branch-2-clause-round
-returns-then-branch-2-clause-round g c =
-    round_acted c.args.script.now (serial_of c.args.self.now) (serial_of c.loop-steps.self) (serial_of c.master_turn.new.self) c.loop-steps._steps-index c.loop-steps.client c.loop-steps.acted c.in_ok-master_turn.field-0
-    (subst (λ (l : List (List Step)). length l ≤ c.loop-steps._steps-index) c.as_slice-steps-items.ensures c.loop-steps-test.false) c.loop-steps.invariant.leads c.in_ok-master_turn.ensures.turn c.if-branch-2.true
-
-pub returns-else-branch-2-clause-round : goal.returns-else-branch-2-clause-round
-returns-else-branch-2-clause-round g c =
-    round_still_so c.args.script.now (serial_of c.args.self.now) (serial_of c.loop-steps.self) (serial_of c.master_turn.new.self) c.loop-steps._steps-index c.loop-steps.client c.loop-steps.acted c.in_ok-master_turn.field-0
-    (subst (λ (l : List (List Step)). length l ≤ c.loop-steps._steps-index) c.as_slice-steps-items.ensures c.loop-steps-test.false) c.loop-steps.invariant.leads c.in_ok-master_turn.ensures.turn c.if-branch-2.false
+pub returns-clause-round : goal.returns-clause-round
+returns-clause-round c =
+    round_if c.nodes_round.result c.args.script.now c.if-branch-2.acted (serial_of c.args.self.now) (serial_of c.master_turn.new.self) (serial_of c.nodes_round.new.self)
+    (round_led_to c.args.script.now (serial_of c.args.self.now) (serial_of c.loop-steps.self) (serial_of c.master_turn.new.self) c.loop-steps._steps-index c.loop-steps.client c.loop-steps.acted
+    c.in_ok-master_turn.field-0 c.if-branch-2.acted (subst (λ (l : List (List Step)). length l ≤ c.loop-steps._steps-index) c.as_slice-steps-items.ensures c.loop-steps-test.false) c.loop-steps.invariant.leads
+    c.in_ok-master_turn.ensures.turn
+    (elim c.if-branch-2.branch [
+      | then-branch-2 w ↦ acted_now c.loop-steps.acted c.in_ok-master_turn.field-0 c.if-branch-2.acted w.if-branch-2.true w.acted-is
+      | else-branch-2 w ↦ acted_before c.loop-steps.acted c.in_ok-master_turn.field-0 c.if-branch-2.acted w.if-branch-2.false w.acted-is
+    ]))
+    c.nodes_round.ensures.round

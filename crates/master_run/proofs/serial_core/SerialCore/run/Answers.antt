@@ -1,14 +1,12 @@
-use Rattle.std.proofs.Common.{◌∙◌, List, ap, map}
-use Rattle.publication.specs.InMemory.{MemLinkView}
+use Rattle.std.proofs.Common.{◌∙◌}
 use Rattle.master_run.specs.Replays.{serial_of}
+use Rattle.master_run.proofs.EndsKept.{begins_with_ends}
 use Rattle.master_run.proofs.Finishing.{comes_to_rest, is_serial, replayed_if}
-use Rattle.master_run.proofs.Linking.{begins_linked}
 use Rattle.master_run.proofs.serial_core.SerialCore.run.Goals as goal
 
-pub follow-requires-clause-linked : goal.follow-requires-clause-linked
-follow-requires-clause-linked c =
-    begins_linked c.args.script.now (serial_of c.in_ok-replay.replay) c.world.result.now _ c.requires.built c.in_ok-replay.ensures.first c.world.ensures
-    (ap (λ (items : List MemLinkView). map (λ (link : MemLinkView). link.meaning) items) c.deref_mut.ensures.value ∙ c.in_ok-links.ensures)
+pub follow-requires-clause-ends : goal.follow-requires-clause-ends
+follow-requires-clause-ends c =
+    begins_with_ends c.args.script.now c.in_ok-replay.replay _ c.requires.built c.in_ok-replay.ensures.first c.in_ok-replay.ensures.sound (c.deref_mut.ensures.value ∙ c.in_ok-replay.ensures.links)
 
 pub returns-clause-replayed : goal.returns-clause-replayed
 returns-clause-replayed c =
@@ -20,12 +18,6 @@ returns-in_err-replay-clause-lawful c = is_serial c.args.script.now c.requires.s
 
 pub returns-in_err-replay-clause-rested : goal.returns-in_err-replay-clause-rested
 returns-in_err-replay-clause-rested c = comes_to_rest c.args.script.now c.requires.script c.requires.built
-
-pub returns-in_err-links-clause-lawful : goal.returns-in_err-links-clause-lawful
-returns-in_err-links-clause-lawful c = is_serial c.args.script.now c.requires.script c.requires.built
-
-pub returns-in_err-links-clause-rested : goal.returns-in_err-links-clause-rested
-returns-in_err-links-clause-rested c = comes_to_rest c.args.script.now c.requires.script c.requires.built
 
 pub returns-in_err-follow-clause-lawful : goal.returns-in_err-follow-clause-lawful
 returns-in_err-follow-clause-lawful c = is_serial c.args.script.now c.requires.script c.requires.built

@@ -1,7 +1,7 @@
 use Rattle.std.proofs.Common.{◌≡◌, ◌+◌, ◌*◌, ◌≤◌, drop}
 use Rattle.std.specs.Prelude.{count_by, flat_map}
 use Rattle.scripts.specs.Scripts.{is_submit, submits}
-use Rattle.master_run.proofs.memory_links.count_submits.Given as goal
+use Rattle.master_run.proofs.node_openings.count_submits.Given as goal
 
 abbrev pub invariant-loop-steps : goal.invariant-loop-steps
 invariant-loop-steps l = record {

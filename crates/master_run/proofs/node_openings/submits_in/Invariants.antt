@@ -1,7 +1,7 @@
 use Rattle.std.proofs.Common.{◌≡◌, ◌+◌, ◌≤◌, drop}
 use Rattle.std.specs.Prelude.{count_by}
 use Rattle.scripts.specs.Scripts.{is_submit}
-use Rattle.master_run.proofs.memory_links.submits_in.Given as goal
+use Rattle.master_run.proofs.node_openings.submits_in.Given as goal
 
 abbrev pub invariant-loop-step : goal.invariant-loop-step
 invariant-loop-step l = record {
