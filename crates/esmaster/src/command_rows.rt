@@ -39,6 +39,8 @@ pub(crate) const ROWS: [Row; 31] = [
         room: 1_000_000,
         status: 0,
         written: r#"report 1
+node n0 handed - applied 1
+view n0 {"aliases":{},"indices":{},"settings":{}}
 state {"cluster":"demo","id":1,"master":"n0","metadata":{"created":0,"indices":{},"settings":{},"version":1},"nodes":{"n0":{"eligible":true}},"term":1,"version":1}
 "#,
     },
@@ -52,6 +54,8 @@ state {"cluster":"demo","id":1,"master":"n0","metadata":{"created":0,"indices":{
         room: 1_000_000,
         status: 0,
         written: r#"report 1
+node n0 handed - applied 1
+view n0 {"aliases":{},"indices":{},"settings":{}}
 state {"cluster":"demo","id":1,"master":"n0","metadata":{"created":0,"indices":{},"settings":{},"version":1},"nodes":{"n0":{"eligible":true}},"term":1,"version":1}
 "#,
     },
@@ -65,6 +69,8 @@ state {"cluster":"demo","id":1,"master":"n0","metadata":{"created":0,"indices":{
         room: 1_000_000,
         status: 0,
         written: r#"report 1
+node n0 handed - applied 1
+view n0 {"aliases":{},"indices":{},"settings":{}}
 state {"cluster":"demo","id":1,"master":"n0","metadata":{"created":0,"indices":{},"settings":{},"version":1},"nodes":{"n0":{"eligible":true}},"term":1,"version":1}
 "#,
     },
@@ -85,6 +91,9 @@ state {"cluster":"demo","id":1,"master":"n0","metadata":{"created":0,"indices":{
         written: r#"report 1
 batch 1 queue make at 0 tasks 0.0/0 published 2 id 2 commit 0 diffs 1 fulls 0 accepted 1
 task 0.0 at 0 ok 2
+node n0 handed 2 applied 1,2
+apply n0 1>2 high 1 normal 1 low 1 listeners 2 created logs-1 deleted - changed - joined - left - settings -
+view n0 {"aliases":{},"indices":{"logs-1":1},"settings":{}}
 state {"cluster":"demo","id":2,"master":"n0","metadata":{"created":1,"indices":{"logs-1":{"aliases":[],"aliases_version":1,"id":1,"open":true,"replicas":1,"settings_version":1,"shards":1,"version":1}},"settings":{},"version":2},"nodes":{"n0":{"eligible":true}},"term":1,"version":2}
 "#,
     },
@@ -106,6 +115,10 @@ batch 1 queue make at 0 tasks 0.0/0 published 2 id 2 commit 0 diffs 1 fulls 0 ac
 batch 2 queue make at 0 tasks 0.1/0 published 3 id 3 commit 0 diffs 1 fulls 0 accepted 1
 task 0.0 at 0 ok 2
 task 0.1 at 0 ok 3
+node n0 handed 2,3 applied 1,2,3
+apply n0 1>2 high 1 normal 1 low 1 listeners 2 created a deleted - changed - joined - left - settings -
+apply n0 2>3 high 2 normal 2 low 2 listeners 3 created b deleted - changed - joined - left - settings -
+view n0 {"aliases":{},"indices":{"a":1,"b":2},"settings":{}}
 state {"cluster":"demo","id":3,"master":"n0","metadata":{"created":2,"indices":{"a":{"aliases":[],"aliases_version":1,"id":1,"open":true,"replicas":1,"settings_version":1,"shards":1,"version":1},"b":{"aliases":[],"aliases_version":1,"id":2,"open":true,"replicas":1,"settings_version":1,"shards":1,"version":1}},"settings":{},"version":3},"nodes":{"n0":{"eligible":true}},"term":1,"version":3}
 "#,
     },
@@ -127,6 +140,9 @@ batch 1 queue make at 0 tasks 0.0/0 published 2 id 2 commit 0 diffs 1 fulls 0 ac
 batch 2 queue make at 0 tasks 0.1/0 unchanged 2
 task 0.0 at 0 ok 2
 task 0.1 at 0 refused exists
+node n0 handed 2 applied 1,2
+apply n0 1>2 high 1 normal 1 low 1 listeners 2 created a deleted - changed - joined - left - settings -
+view n0 {"aliases":{},"indices":{"a":1},"settings":{}}
 state {"cluster":"demo","id":2,"master":"n0","metadata":{"created":1,"indices":{"a":{"aliases":[],"aliases_version":1,"id":1,"open":true,"replicas":1,"settings_version":1,"shards":1,"version":1}},"settings":{},"version":2},"nodes":{"n0":{"eligible":true}},"term":1,"version":2}
 "#,
     },
@@ -151,6 +167,10 @@ batch 3 queue drop at 0 tasks 0.4/2 unchanged 3
 task 0.0 at 0 ok 2
 task 0.2 at 0 ok 3
 task 0.4 at 0 refused not_found
+node n0 handed 2,3 applied 1,2,3
+apply n0 1>2 high 1 normal 1 low 1 listeners 2 created a deleted - changed - joined - left - settings -
+apply n0 2>3 high 2 normal 2 low 2 listeners 3 created - deleted a changed - joined - left - settings -
+view n0 {"aliases":{},"indices":{},"settings":{}}
 state {"cluster":"demo","id":3,"master":"n0","metadata":{"created":1,"indices":{},"settings":{},"version":3},"nodes":{"n0":{"eligible":true}},"term":1,"version":3}
 "#,
     },
@@ -177,6 +197,12 @@ task 0.0 at 0 ok 2
 task 0.2 at 0 ok 3
 task 0.3 at 0 ok 4
 task 0.6 at 0 ok 5
+node n0 handed 2,3,4,5 applied 1,2,3,4,5
+apply n0 1>2 high 1 normal 1 low 1 listeners 2 created a deleted - changed - joined - left - settings -
+apply n0 2>3 high 2 normal 2 low 2 listeners 3 created - deleted - changed a joined - left - settings -
+apply n0 3>4 high 3 normal 3 low 3 listeners 4 created - deleted - changed - joined - left - settings k
+apply n0 4>5 high 4 normal 4 low 4 listeners 5 created - deleted a changed - joined - left - settings -
+view n0 {"aliases":{},"indices":{},"settings":{"k":"v"}}
 state {"cluster":"demo","id":5,"master":"n0","metadata":{"created":1,"indices":{},"settings":{"k":"v"},"version":5},"nodes":{"n0":{"eligible":true}},"term":1,"version":5}
 "#,
     },
@@ -199,6 +225,9 @@ batch 1 queue make at 0 tasks 0.0/0 published 2 id 2 commit 0 diffs 1 fulls 0 ac
 batch 2 queue conf at 0 tasks 0.2/1 unchanged 2
 task 0.0 at 0 ok 2
 task 0.2 at 0 refused final_setting
+node n0 handed 2 applied 1,2
+apply n0 1>2 high 1 normal 1 low 1 listeners 2 created a deleted - changed - joined - left - settings -
+view n0 {"aliases":{},"indices":{"a":1},"settings":{}}
 state {"cluster":"demo","id":2,"master":"n0","metadata":{"created":1,"indices":{"a":{"aliases":[],"aliases_version":1,"id":1,"open":true,"replicas":1,"settings_version":1,"shards":1,"version":1}},"settings":{},"version":2},"nodes":{"n0":{"eligible":true}},"term":1,"version":2}
 "#,
     },
@@ -225,6 +254,10 @@ task 0.0 at 0 ok 2
 task 0.1 at 0 ok 3
 task 0.2 at 0 batch_failed 0 not_found
 task 0.4 at 0 batch_failed 0 not_found
+node n0 handed 2,3 applied 1,2,3
+apply n0 1>2 high 1 normal 1 low 1 listeners 2 created a deleted - changed - joined - left - settings -
+apply n0 2>3 high 2 normal 2 low 2 listeners 3 created - deleted - changed a joined - left - settings -
+view n0 {"aliases":{"x":["a"]},"indices":{"a":1},"settings":{}}
 state {"cluster":"demo","id":3,"master":"n0","metadata":{"created":1,"indices":{"a":{"aliases":["x"],"aliases_version":2,"id":1,"open":true,"replicas":1,"settings_version":1,"shards":1,"version":2}},"settings":{},"version":3},"nodes":{"n0":{"eligible":true}},"term":1,"version":3}
 "#,
     },
@@ -253,6 +286,11 @@ task 0.1 at 0 unchanged 2
 task 0.2 at 0 ok 3
 task 0.3 at 0 unchanged 3
 task 0.4 at 0 ok 4
+node n0 handed 2,3,4 applied 1,2,3,4
+apply n0 1>2 high 1 normal 1 low 1 listeners 2 created a deleted - changed - joined - left - settings -
+apply n0 2>3 high 2 normal 2 low 2 listeners 3 created - deleted - changed a joined - left - settings -
+apply n0 3>4 high 3 normal 3 low 3 listeners 4 created - deleted - changed a joined - left - settings -
+view n0 {"aliases":{},"indices":{"a":1},"settings":{}}
 state {"cluster":"demo","id":4,"master":"n0","metadata":{"created":1,"indices":{"a":{"aliases":[],"aliases_version":1,"id":1,"open":false,"replicas":2,"settings_version":2,"shards":1,"version":3}},"settings":{},"version":4},"nodes":{"n0":{"eligible":true}},"term":1,"version":4}
 "#,
     },
@@ -275,6 +313,9 @@ batch 1 queue vote at 0 tasks 0.0/0 published 2 id 2 commit 0 diffs 1 fulls 0 ac
 batch 2 queue glob at 0 tasks 0.1/0 unchanged 2
 task 0.0 at 0 ok 2
 task 0.1 at 0 unchanged 2
+node n0 handed 2 applied 1,2
+apply n0 1>2 high 1 normal 1 low 1 listeners 2 created - deleted - changed - joined - left - settings -
+view n0 {"aliases":{},"indices":{},"settings":{}}
 state {"cluster":"demo","id":2,"master":"n0","metadata":{"created":0,"indices":{},"settings":{},"version":1},"nodes":{"n0":{"eligible":true}},"term":2,"version":2}
 "#,
     },
@@ -294,7 +335,7 @@ state {"cluster":"demo","id":2,"master":"n0","metadata":{"created":0,"indices":{
         fails: false,
         room: 1_000_000,
         status: 0,
-        written: "report 1\nbatch 1 queue *batch 200 queue make at 0 tasks 0.199/0 published 201 id 201 commit 0 diffs 1 fulls 0 accepted 1\ntask 0.0 at 0 ok 2\n*task 0.199 at 0 ok 201\nstate *",
+        written: "report 1\nbatch 1 queue *batch 200 queue make at 0 tasks 0.199/0 published 201 id 201 commit 0 diffs 1 fulls 0 accepted 1\ntask 0.0 at 0 ok 2\n*task 0.199 at 0 ok 201\nnode n0 handed 2,3,*,201 applied 1,2,*\napply n0 200>201 high 200 normal 200 low 200 listeners 201 created i199 deleted - changed - joined - left - settings -\nview n0 *\nstate *",
     },
     // an index name has at most 255 bytes
     Row {
@@ -310,7 +351,7 @@ state {"cluster":"demo","id":2,"master":"n0","metadata":{"created":0,"indices":{
         fails: false,
         room: 1_000_000,
         status: 0,
-        written: "report 1\n*\ntask 0.0 at 0 ok 2\nstate *",
+        written: "report 1\n*\ntask 0.0 at 0 ok 2\nnode n0 handed 2 applied 1,2\n*\nstate *",
     },
     Row {
         words: "replay",
@@ -325,7 +366,7 @@ state {"cluster":"demo","id":2,"master":"n0","metadata":{"created":0,"indices":{
         fails: false,
         room: 1_000_000,
         status: 0,
-        written: "report 1\n* unchanged 1\ntask 0.0 at 0 refused invalid_name\nstate *",
+        written: "report 1\n* unchanged 1\ntask 0.0 at 0 refused invalid_name\nnode n0 handed - applied 1\nview n0 *\nstate *",
     },
     // several nodes: a node joins, leaves and joins again; what is refused of nodes; and what a node that joined is sent
     Row {
@@ -348,6 +389,20 @@ batch 3 queue node at 0 tasks 0.4/2 published 4 id 4 commit 0 diffs 2 fulls 1 ac
 task 0.0 at 0 ok 2
 task 0.2 at 0 ok 3
 task 0.4 at 0 ok 4
+node n0 handed 2,3,4 applied 1,2,3,4
+apply n0 1>2 high 1 normal 1 low 1 listeners 2 created - deleted - changed - joined n2 left - settings -
+apply n0 2>3 high 2 normal 2 low 2 listeners 3 created - deleted - changed - joined - left n2 settings -
+apply n0 3>4 high 3 normal 3 low 3 listeners 4 created - deleted - changed - joined n2 left - settings -
+view n0 {"aliases":{},"indices":{},"settings":{}}
+node n1 handed 2,3,4 applied 1,2,3,4
+apply n1 1>2 high 1 normal 1 low 1 listeners 2 created - deleted - changed - joined n2 left - settings -
+apply n1 2>3 high 2 normal 2 low 2 listeners 3 created - deleted - changed - joined - left n2 settings -
+apply n1 3>4 high 3 normal 3 low 3 listeners 4 created - deleted - changed - joined n2 left - settings -
+view n1 {"aliases":{},"indices":{},"settings":{}}
+node n2 handed 2,4 applied 0,2,4
+apply n2 0>2 high 0 normal 0 low 0 listeners 2 created - deleted - changed - joined n0,n1,n2 left - settings -
+apply n2 2>4 high 2 normal 2 low 2 listeners 4 created - deleted - changed - joined - left - settings -
+view n2 {"aliases":{},"indices":{},"settings":{}}
 state {"cluster":"demo","id":4,"master":"n0","metadata":{"created":0,"indices":{},"settings":{},"version":1},"nodes":{"n0":{"eligible":true},"n1":{"eligible":true},"n2":{"eligible":true}},"term":1,"version":4}
 "#,
     },
@@ -371,6 +426,10 @@ batch 3 queue node at 0 tasks 0.2/0 unchanged 1
 task 0.0 at 0 refused node_known
 task 0.1 at 0 refused node_unknown
 task 0.2 at 0 refused master_may_not_leave
+node n0 handed - applied 1
+view n0 {"aliases":{},"indices":{},"settings":{}}
+node n1 handed - applied 0
+view n1 {"aliases":{},"indices":{},"settings":{}}
 state {"cluster":"demo","id":1,"master":"n0","metadata":{"created":0,"indices":{},"settings":{},"version":1},"nodes":{"n0":{"eligible":true}},"term":1,"version":1}
 "#,
     },
@@ -394,6 +453,21 @@ batch 3 queue glob at 0 tasks 0.2/0 published 4 id 4 commit 0 diffs 3 fulls 0 ac
 task 0.0 at 0 ok 2
 task 0.1 at 0 ok 3
 task 0.2 at 0 ok 4
+node n0 handed 2,3,4 applied 1,2,3,4
+apply n0 1>2 high 1 normal 1 low 1 listeners 2 created - deleted - changed - joined n2 left - settings -
+apply n0 2>3 high 2 normal 2 low 2 listeners 3 created - deleted - changed - joined - left - settings a
+apply n0 3>4 high 3 normal 3 low 3 listeners 4 created - deleted - changed - joined - left - settings b
+view n0 {"aliases":{},"indices":{},"settings":{"a":"v","b":"v"}}
+node n1 handed 2,3,4 applied 1,2,3,4
+apply n1 1>2 high 1 normal 1 low 1 listeners 2 created - deleted - changed - joined n2 left - settings -
+apply n1 2>3 high 2 normal 2 low 2 listeners 3 created - deleted - changed - joined - left - settings a
+apply n1 3>4 high 3 normal 3 low 3 listeners 4 created - deleted - changed - joined - left - settings b
+view n1 {"aliases":{},"indices":{},"settings":{"a":"v","b":"v"}}
+node n2 handed 2,3,4 applied 0,2,3,4
+apply n2 0>2 high 0 normal 0 low 0 listeners 2 created - deleted - changed - joined n0,n1,n2 left - settings -
+apply n2 2>3 high 2 normal 2 low 2 listeners 3 created - deleted - changed - joined - left - settings a
+apply n2 3>4 high 3 normal 3 low 3 listeners 4 created - deleted - changed - joined - left - settings b
+view n2 {"aliases":{},"indices":{},"settings":{"a":"v","b":"v"}}
 state {"cluster":"demo","id":4,"master":"n0","metadata":{"created":0,"indices":{},"settings":{"a":"v","b":"v"},"version":3},"nodes":{"n0":{"eligible":true},"n1":{"eligible":true},"n2":{"eligible":false}},"term":1,"version":4}
 "#,
     },
@@ -488,9 +562,11 @@ state {"cluster":"demo","id":4,"master":"n0","metadata":{"created":0,"indices":{
         pieces: [("", 0), ("", 0)],
         comma: ",",
         fails: false,
-        room: 164,
+        room: 241,
         status: 4,
         written: r#"report 1
+node n0 handed - applied 1
+view n0 {"aliases":{},"indices":{},"settings":{}}
 state {"cluster":"demo","id":1,"master":"n0","metadata":{"created":0,"indices":{},"settings":{},"version":1},"nodes":{"n0":{"eligible":true}},"term":1,"ver"#,
     },
     // other words are no command
@@ -548,237 +624,5 @@ state {"cluster":"demo","id":1,"master":"n0","metadata":{"created":0,"indices":{
         room: 1_000_000,
         status: 1,
         written: "",
-    },
-];
-
-// Scripts of many steps, faults or turns.
-pub(crate) const LONG: [Row; 11] = [
-    // 2,828 submits come to 7,997,584 for one node, and one more to 8,003,241
-    Row {
-        words: "replay",
-        blanks: 0,
-        script: [
-            r#"{"version":1,"cluster":"c","nodes":[{"name":"a"}],"queues":[{"name":"q","executor":"create_index"}],"clients":[["#,
-            "]]}",
-            "",
-        ],
-        pieces: [
-            (r#"{"do":"submit","queue":"q","task":{"index":"i"}}"#, 2828),
-            ("", 0),
-        ],
-        comma: ",",
-        fails: false,
-        room: 1_000_000,
-        status: 0,
-        written: "report 1\nbatch 1 queue q at 0 tasks 0.0/0 published 2 *\nbatch 2828 queue q at 0 tasks 0.2827/0 unchanged 2\n*",
-    },
-    Row {
-        words: "replay",
-        blanks: 0,
-        script: [
-            r#"{"version":1,"cluster":"c","nodes":[{"name":"a"}],"queues":[{"name":"q","executor":"create_index"}],"clients":[["#,
-            "]]}",
-            "",
-        ],
-        pieces: [
-            (r#"{"do":"submit","queue":"q","task":{"index":"i"}}"#, 2829),
-            ("", 0),
-        ],
-        comma: ",",
-        fails: false,
-        room: 1_000_000,
-        status: 2,
-        written: "refused limit work\n",
-    },
-    // how many steps and turns there may be, and faults
-    Row {
-        words: "replay",
-        blanks: 0,
-        script: [
-            r#"{"version":1,"cluster":"c","nodes":[{"name":"a"}],"queues":[{"name":"q","executor":"create_index"}],"clients":[["#,
-            "]]}",
-            "",
-        ],
-        pieces: [(r#"{"do":"sleep","ms":0}"#, 4096), ("", 0)],
-        comma: ",",
-        fails: false,
-        room: 1_000_000,
-        status: 0,
-        written: r#"report 1
-state {"cluster":"c","id":1,"master":"a","metadata":{"created":0,"indices":{},"settings":{},"version":1},"nodes":{"a":{"eligible":true}},"term":1,"version":1}
-"#,
-    },
-    Row {
-        words: "replay",
-        blanks: 0,
-        script: [
-            r#"{"version":1,"cluster":"c","nodes":[{"name":"a"}],"queues":[{"name":"q","executor":"create_index"}],"clients":[["#,
-            "]]}",
-            "",
-        ],
-        pieces: [(r#"{"do":"sleep","ms":0}"#, 4097), ("", 0)],
-        comma: ",",
-        fails: false,
-        room: 1_000_000,
-        status: 2,
-        written: "refused limit steps\n",
-    },
-    Row {
-        words: "replay",
-        blanks: 0,
-        script: [
-            r#"{"version":1,"cluster":"demo","nodes":[{"name":"n0"},{"name":"n1"}],"queues":[{"name":"q","executor":"create_index"}],"clients":[[],[]],"faults":["#,
-            r#"],"schedule":[]}"#,
-            "",
-        ],
-        pieces: [
-            (r#"{"node":"n1","publication":1,"kind":"apply"}"#, 1024),
-            ("", 0),
-        ],
-        comma: ",",
-        fails: false,
-        room: 1_000_000,
-        status: 2,
-        written: "refused bad_shape faults[1] twice\n",
-    },
-    Row {
-        words: "replay",
-        blanks: 0,
-        script: [
-            r#"{"version":1,"cluster":"demo","nodes":[{"name":"n0"},{"name":"n1"}],"queues":[{"name":"q","executor":"create_index"}],"clients":[[],[]],"faults":["#,
-            r#"],"schedule":[]}"#,
-            "",
-        ],
-        pieces: [
-            (r#"{"node":"n1","publication":1,"kind":"apply"}"#, 1025),
-            ("", 0),
-        ],
-        comma: ",",
-        fails: false,
-        room: 1_000_000,
-        status: 2,
-        written: "refused limit faults\n",
-    },
-    Row {
-        words: "replay",
-        blanks: 0,
-        script: [
-            r#"{"version":1,"cluster":"demo","nodes":[{"name":"n0"},{"name":"n1"}],"queues":[{"name":"q","executor":"create_index"}],"clients":[[],[]],"faults":[],"schedule":["#,
-            "]}",
-            "",
-        ],
-        pieces: [(r#""m""#, 65536), ("", 0)],
-        comma: ",",
-        fails: false,
-        room: 1_000_000,
-        status: 0,
-        written: r#"report 1
-state {"cluster":"demo","id":1,"master":"n0","metadata":{"created":0,"indices":{},"settings":{},"version":1},"nodes":{"n0":{"eligible":true},"n1":{"eligible":true}},"term":1,"version":1}
-"#,
-    },
-    Row {
-        words: "replay",
-        blanks: 0,
-        script: [
-            r#"{"version":1,"cluster":"demo","nodes":[{"name":"n0"},{"name":"n1"}],"queues":[{"name":"q","executor":"create_index"}],"clients":[[],[]],"faults":[],"schedule":["#,
-            "]}",
-            "",
-        ],
-        pieces: [(r#""m""#, 65537), ("", 0)],
-        comma: ",",
-        fails: false,
-        room: 1_000_000,
-        status: 2,
-        written: "refused limit schedule\n",
-    },
-    // the clock stays at 2^43 - 2: 2,048 sleeps come to 2,046 less; a deadline is no later than that moment, and a sleep at
-    // which the clock stays lets a task time out; one without a timeout waits on
-    Row {
-        words: "replay",
-        blanks: 0,
-        script: [
-            r#"{"version":1,"cluster":"c","nodes":[{"name":"a"}],"queues":[{"name":"slow","executor":"cluster_settings","priority":"LANGUID"},{"name":"glob","executor":"cluster_settings"}],"clients":[["#,
-            r#",{"do":"submit","queue":"slow","task":{"key":"i","value":"1"},"timeout":4294967295},{"do":"sleep","ms":2045},{"do":"sleep","ms":4294967295},{"do":"submit","queue":"slow","task":{"key":"j","value":"1"},"timeout":1},{"do":"submit","queue":"glob","task":{"key":"k","value":"1"}},{"do":"sleep","ms":0}]],"schedule":["#,
-            r#","m"]}"#,
-        ],
-        pieces: [
-            (r#"{"do":"sleep","ms":4294967295}"#, 2048),
-            (r#""c0""#, 2054),
-        ],
-        comma: ",",
-        fails: false,
-        room: 1_000_000,
-        status: 0,
-        written: r#"report 1
-batch 1 queue glob at 8796093022206 tasks 0.2052/0 published 2 id 2 commit 8796093022206 diffs 1 fulls 0 accepted 1
-task 0.2048 at 8796093020160 timeout 8796093022206 8796093022206
-task 0.2051 at 8796093022206 timeout 8796093022206 8796093022206
-task 0.2052 at 8796093022206 ok 2
-state {"cluster":"c","id":2,"master":"a","metadata":{"created":0,"indices":{},"settings":{"k":"1"},"version":2},"nodes":{"a":{"eligible":true}},"term":1,"version":2}
-"#,
-    },
-    // 1,001 submits and 3,996 reads come to 3,999,996, and one read more to 4,000,997
-    Row {
-        words: "replay",
-        blanks: 0,
-        script: [
-            r#"{"version":1,"cluster":"demo","nodes":[{"name":"n0"},{"name":"n1"}],"queues":[{"name":"q","executor":"create_index"}],"clients":[["#,
-            "],[",
-            r#"]],"faults":[],"schedule":[]}"#,
-        ],
-        pieces: [
-            (r#"{"do":"submit","queue":"q","task":{"index":"a"}}"#, 1001),
-            (r#"{"do":"read","node":"n0","alias":"x"}"#, 3996),
-        ],
-        comma: ",",
-        fails: false,
-        room: 1_000_000,
-        status: 2,
-        written: "refused bad_shape $ not_built\n",
-    },
-    Row {
-        words: "replay",
-        blanks: 0,
-        script: [
-            r#"{"version":1,"cluster":"demo","nodes":[{"name":"n0"},{"name":"n1"}],"queues":[{"name":"q","executor":"create_index"}],"clients":[["#,
-            "],[",
-            r#"]],"faults":[],"schedule":[]}"#,
-        ],
-        pieces: [
-            (r#"{"do":"submit","queue":"q","task":{"index":"a"}}"#, 1001),
-            (r#"{"do":"read","node":"n0","alias":"x"}"#, 3997),
-        ],
-        comma: ",",
-        fails: false,
-        room: 1_000_000,
-        status: 2,
-        written: "refused limit work\n",
-    },
-];
-
-// Scripts of as many bytes as there may be, and of one more.
-pub(crate) const WIDE: [Row; 2] = [
-    // one byte too many
-    Row {
-        words: "replay",
-        blanks: 16_777_217,
-        script: ["", "", ""],
-        pieces: [("", 0), ("", 0)],
-        comma: ",",
-        fails: false,
-        room: 1_000_000,
-        status: 6,
-        written: "",
-    },
-    Row {
-        words: "replay",
-        blanks: 16_777_216,
-        script: ["", "", ""],
-        pieces: [("", 0), ("", 0)],
-        comma: ",",
-        fails: false,
-        room: 1_000_000,
-        status: 2,
-        written: "refused not_json\n",
     },
 ];

@@ -6,6 +6,8 @@ mod answers;
 mod command_rows;
 mod commands;
 mod exits;
+#[cfg(test)]
+mod long_rows;
 mod replays;
 #[cfg(test)]
 mod script_tests;

@@ -1,6 +1,7 @@
-use crate::command_rows::{BASE, LONG, ROWS, Row, WIDE};
+use crate::command_rows::{BASE, ROWS, Row};
 use crate::commands::esmaster;
 use crate::exits::Exit;
+use crate::long_rows::{LONG, WIDE};
 use crate::turn_rows::TURNS;
 use edge_io::{Frozen, MemSink, MemSource, OpenGate};
 use plain_data::OutOfMemory;

@@ -21,6 +21,9 @@ batch 1 queue make at 0 tasks 0.0/0,1.0/0,2.0/0 published 2 id 2 commit 0 diffs 
 task 0.0 at 0 ok 2
 task 1.0 at 0 ok 2
 task 2.0 at 0 ok 2
+node n0 handed 2 applied 1,2
+apply n0 1>2 high 1 normal 1 low 1 listeners 2 created a,b,c deleted - changed - joined - left - settings -
+view n0 {"aliases":{},"indices":{"a":1,"b":2,"c":3},"settings":{}}
 state {"cluster":"demo","id":2,"master":"n0","metadata":{"created":3,"indices":{"a":{"aliases":[],"aliases_version":1,"id":1,"open":true,"replicas":1,"settings_version":1,"shards":1,"version":1},"b":{"aliases":[],"aliases_version":1,"id":2,"open":true,"replicas":1,"settings_version":1,"shards":1,"version":1},"c":{"aliases":[],"aliases_version":1,"id":3,"open":true,"replicas":1,"settings_version":1,"shards":1,"version":1}},"settings":{},"version":2},"nodes":{"n0":{"eligible":true}},"term":1,"version":2}
 "#,
     },
@@ -42,6 +45,9 @@ state {"cluster":"demo","id":2,"master":"n0","metadata":{"created":3,"indices":{
 batch 1 queue make at 0 tasks 0.0/0,0.1/0 published 2 id 2 commit 0 diffs 1 fulls 0 accepted 1
 task 0.0 at 0 ok 2
 task 0.1 at 0 refused exists
+node n0 handed 2 applied 1,2
+apply n0 1>2 high 1 normal 1 low 1 listeners 2 created a deleted - changed - joined - left - settings -
+view n0 {"aliases":{},"indices":{"a":1},"settings":{}}
 state {"cluster":"demo","id":2,"master":"n0","metadata":{"created":1,"indices":{"a":{"aliases":[],"aliases_version":1,"id":1,"open":true,"replicas":1,"settings_version":1,"shards":1,"version":1}},"settings":{},"version":2},"nodes":{"n0":{"eligible":true}},"term":1,"version":2}
 "#,
     },
@@ -63,6 +69,8 @@ state {"cluster":"demo","id":2,"master":"n0","metadata":{"created":1,"indices":{
 batch 1 queue glob at 0 tasks 0.0/0,0.1/0 unchanged 1
 task 0.0 at 0 unchanged 1
 task 0.1 at 0 unchanged 1
+node n0 handed - applied 1
+view n0 {"aliases":{},"indices":{},"settings":{}}
 state {"cluster":"demo","id":1,"master":"n0","metadata":{"created":0,"indices":{},"settings":{},"version":1},"nodes":{"n0":{"eligible":true}},"term":1,"version":1}
 "#,
     },
@@ -86,6 +94,9 @@ batch 2 queue atom at 0 tasks 0.1/0,0.2/0 batch_failed 1 not_found
 task 0.0 at 0 ok 2
 task 0.1 at 0 batch_failed 1 not_found
 task 0.2 at 0 batch_failed 1 not_found
+node n0 handed 2 applied 1,2
+apply n0 1>2 high 1 normal 1 low 1 listeners 2 created a deleted - changed - joined - left - settings -
+view n0 {"aliases":{},"indices":{"a":1},"settings":{}}
 state {"cluster":"demo","id":2,"master":"n0","metadata":{"created":1,"indices":{"a":{"aliases":[],"aliases_version":1,"id":1,"open":true,"replicas":1,"settings_version":1,"shards":1,"version":1}},"settings":{},"version":2},"nodes":{"n0":{"eligible":true}},"term":1,"version":2}
 "#,
     },
@@ -112,6 +123,12 @@ task 0.0 at 0 ok 5
 task 0.1 at 0 ok 2
 task 0.2 at 0 ok 3
 task 0.3 at 0 ok 4
+node n0 handed 2,3,4,5 applied 1,2,3,4,5
+apply n0 1>2 high 1 normal 1 low 1 listeners 2 created - deleted - changed - joined - left - settings b
+apply n0 2>3 high 2 normal 2 low 2 listeners 3 created i deleted - changed - joined - left - settings -
+apply n0 3>4 high 3 normal 3 low 3 listeners 4 created - deleted - changed - joined - left - settings c
+apply n0 4>5 high 4 normal 4 low 4 listeners 5 created - deleted - changed - joined - left - settings a
+view n0 {"aliases":{},"indices":{"i":1},"settings":{"a":"1","b":"1","c":"1"}}
 state {"cluster":"demo","id":5,"master":"n0","metadata":{"created":1,"indices":{"i":{"aliases":[],"aliases_version":1,"id":1,"open":true,"replicas":1,"settings_version":1,"shards":1,"version":1}},"settings":{"a":"1","b":"1","c":"1"},"version":5},"nodes":{"n0":{"eligible":true}},"term":1,"version":5}
 "#,
     },
@@ -141,6 +158,14 @@ task 0.2 at 0 ok 5
 task 0.3 at 0 ok 4
 task 0.4 at 0 ok 3
 task 0.5 at 0 ok 2
+node n0 handed 2,3,4,5,6,7 applied 1,2,3,4,5,6,7
+apply n0 1>2 high 1 normal 1 low 1 listeners 2 created - deleted - changed - joined - left - settings k
+apply n0 2>3 high 2 normal 2 low 2 listeners 3 created - deleted - changed - joined - left - settings k
+apply n0 3>4 high 3 normal 3 low 3 listeners 4 created - deleted - changed - joined - left - settings k
+apply n0 4>5 high 4 normal 4 low 4 listeners 5 created - deleted - changed - joined - left - settings k
+apply n0 5>6 high 5 normal 5 low 5 listeners 6 created - deleted - changed - joined - left - settings k
+apply n0 6>7 high 6 normal 6 low 6 listeners 7 created - deleted - changed - joined - left - settings k
+view n0 {"aliases":{},"indices":{},"settings":{"k":"f"}}
 state {"cluster":"demo","id":7,"master":"n0","metadata":{"created":0,"indices":{},"settings":{"k":"f"},"version":7},"nodes":{"n0":{"eligible":true}},"term":1,"version":7}
 "#,
     },
@@ -164,6 +189,10 @@ batch 2 queue make at 0 tasks 0.1/0 published 3 id 3 commit 0 diffs 1 fulls 0 ac
 task 0.0 at 0 ok 2
 task 0.1 at 0 ok 3
 task 0.2 at 0 ok 2
+node n0 handed 2,3 applied 1,2,3
+apply n0 1>2 high 1 normal 1 low 1 listeners 2 created - deleted - changed - joined - left - settings k
+apply n0 2>3 high 2 normal 2 low 2 listeners 3 created a deleted - changed - joined - left - settings -
+view n0 {"aliases":{},"indices":{"a":1},"settings":{"k":"2"}}
 state {"cluster":"demo","id":3,"master":"n0","metadata":{"created":1,"indices":{"a":{"aliases":[],"aliases_version":1,"id":1,"open":true,"replicas":1,"settings_version":1,"shards":1,"version":1}},"settings":{"k":"2"},"version":3},"nodes":{"n0":{"eligible":true}},"term":1,"version":3}
 "#,
     },
@@ -188,6 +217,11 @@ batch 3 queue make at 0 tasks 0.2/0 published 4 id 4 commit 0 diffs 1 fulls 0 ac
 task 0.0 at 0 ok 2
 task 0.1 at 0 ok 3
 task 0.2 at 0 ok 4
+node n0 handed 2,3,4 applied 1,2,3,4
+apply n0 1>2 high 1 normal 1 low 1 listeners 2 created a deleted - changed - joined - left - settings -
+apply n0 2>3 high 2 normal 2 low 2 listeners 3 created - deleted - changed - joined - left - settings k
+apply n0 3>4 high 3 normal 3 low 3 listeners 4 created b deleted - changed - joined - left - settings -
+view n0 {"aliases":{},"indices":{"a":1,"b":2},"settings":{"k":"1"}}
 state {"cluster":"demo","id":4,"master":"n0","metadata":{"created":2,"indices":{"a":{"aliases":[],"aliases_version":1,"id":1,"open":true,"replicas":1,"settings_version":1,"shards":1,"version":1},"b":{"aliases":[],"aliases_version":1,"id":2,"open":true,"replicas":1,"settings_version":1,"shards":1,"version":1}},"settings":{"k":"1"},"version":4},"nodes":{"n0":{"eligible":true}},"term":1,"version":4}
 "#,
     },
@@ -207,6 +241,8 @@ state {"cluster":"demo","id":4,"master":"n0","metadata":{"created":2,"indices":{
         status: 0,
         written: r#"report 1
 task 0.0 at 0 timeout 5 5
+node n0 handed - applied 1
+view n0 {"aliases":{},"indices":{},"settings":{}}
 state {"cluster":"demo","id":1,"master":"n0","metadata":{"created":0,"indices":{},"settings":{},"version":1},"nodes":{"n0":{"eligible":true}},"term":1,"version":1}
 "#,
     },
@@ -226,6 +262,9 @@ state {"cluster":"demo","id":1,"master":"n0","metadata":{"created":0,"indices":{
         written: r#"report 1
 batch 1 queue make at 0 tasks 0.0/0 published 2 id 2 commit 0 diffs 1 fulls 0 accepted 1
 task 0.0 at 0 ok 2
+node n0 handed 2 applied 1,2
+apply n0 1>2 high 1 normal 1 low 1 listeners 2 created a deleted - changed - joined - left - settings -
+view n0 {"aliases":{},"indices":{"a":1},"settings":{}}
 state {"cluster":"demo","id":2,"master":"n0","metadata":{"created":1,"indices":{"a":{"aliases":[],"aliases_version":1,"id":1,"open":true,"replicas":1,"settings_version":1,"shards":1,"version":1}},"settings":{},"version":2},"nodes":{"n0":{"eligible":true}},"term":1,"version":2}
 "#,
     },
@@ -247,6 +286,9 @@ state {"cluster":"demo","id":2,"master":"n0","metadata":{"created":1,"indices":{
 batch 1 queue make at 4 tasks 0.0/0 published 2 id 2 commit 4 diffs 1 fulls 0 accepted 1
 task 0.0 at 0 ok 2
 task 0.1 at 4 timeout 9 10
+node n0 handed 2 applied 1,2
+apply n0 1>2 high 1 normal 1 low 1 listeners 2 created a deleted - changed - joined - left - settings -
+view n0 {"aliases":{},"indices":{"a":1},"settings":{}}
 state {"cluster":"demo","id":2,"master":"n0","metadata":{"created":1,"indices":{"a":{"aliases":[],"aliases_version":1,"id":1,"open":true,"replicas":1,"settings_version":1,"shards":1,"version":1}},"settings":{},"version":2},"nodes":{"n0":{"eligible":true}},"term":1,"version":2}
 "#,
     },
@@ -270,6 +312,9 @@ batch 1 queue make at 5 tasks 0.1/0,0.3/0 published 2 id 2 commit 5 diffs 1 full
 task 0.0 at 0 timeout 5 5
 task 0.1 at 0 ok 2
 task 0.3 at 5 ok 2
+node n0 handed 2 applied 1,2
+apply n0 1>2 high 1 normal 1 low 1 listeners 2 created a,b deleted - changed - joined - left - settings -
+view n0 {"aliases":{},"indices":{"a":1,"b":2},"settings":{}}
 state {"cluster":"demo","id":2,"master":"n0","metadata":{"created":2,"indices":{"a":{"aliases":[],"aliases_version":1,"id":1,"open":true,"replicas":1,"settings_version":1,"shards":1,"version":1},"b":{"aliases":[],"aliases_version":1,"id":2,"open":true,"replicas":1,"settings_version":1,"shards":1,"version":1}},"settings":{},"version":2},"nodes":{"n0":{"eligible":true}},"term":1,"version":2}
 "#,
     },
@@ -293,6 +338,10 @@ batch 2 queue make at 1 tasks 0.1/0 published 3 id 3 commit 1 diffs 1 fulls 0 ac
 task 0.0 at 0 timeout 1 1
 task 0.1 at 0 ok 3
 task 0.2 at 0 ok 2
+node n0 handed 2,3 applied 1,2,3
+apply n0 1>2 high 1 normal 1 low 1 listeners 2 created - deleted - changed - joined - left - settings j
+apply n0 2>3 high 2 normal 2 low 2 listeners 3 created a deleted - changed - joined - left - settings -
+view n0 {"aliases":{},"indices":{"a":1},"settings":{"j":"1"}}
 state {"cluster":"demo","id":3,"master":"n0","metadata":{"created":1,"indices":{"a":{"aliases":[],"aliases_version":1,"id":1,"open":true,"replicas":1,"settings_version":1,"shards":1,"version":1}},"settings":{"j":"1"},"version":3},"nodes":{"n0":{"eligible":true}},"term":1,"version":3}
 "#,
     },
@@ -317,6 +366,9 @@ task 0.0 at 0 ok 2
 task 0.1 at 0 timeout 2 2
 task 0.2 at 0 batch_failed 1 not_found
 task 0.3 at 0 batch_failed 1 not_found
+node n0 handed 2 applied 1,2
+apply n0 1>2 high 1 normal 1 low 1 listeners 2 created a deleted - changed - joined - left - settings -
+view n0 {"aliases":{},"indices":{"a":1},"settings":{}}
 state {"cluster":"demo","id":2,"master":"n0","metadata":{"created":1,"indices":{"a":{"aliases":[],"aliases_version":1,"id":1,"open":true,"replicas":1,"settings_version":1,"shards":1,"version":1}},"settings":{},"version":2},"nodes":{"n0":{"eligible":true}},"term":1,"version":2}
 "#,
     },
@@ -338,6 +390,9 @@ state {"cluster":"demo","id":2,"master":"n0","metadata":{"created":1,"indices":{
 batch 1 queue make at 5 tasks 0.3/0 published 2 id 2 commit 5 diffs 1 fulls 0 accepted 1
 task 0.0 at 0 timeout 5 5
 task 0.3 at 5 ok 2
+node n0 handed 2 applied 1,2
+apply n0 1>2 high 1 normal 1 low 1 listeners 2 created b deleted - changed - joined - left - settings -
+view n0 {"aliases":{},"indices":{"b":1},"settings":{}}
 state {"cluster":"demo","id":2,"master":"n0","metadata":{"created":1,"indices":{"b":{"aliases":[],"aliases_version":1,"id":1,"open":true,"replicas":1,"settings_version":1,"shards":1,"version":1}},"settings":{},"version":2},"nodes":{"n0":{"eligible":true}},"term":1,"version":2}
 "#,
     },
@@ -364,6 +419,12 @@ task 0.0 at 0 ok 3
 task 0.1 at 0 ok 2
 task 0.4 at 0 ok 5
 task 1.0 at 0 ok 4
+node n0 handed 2,3,4,5 applied 1,2,3,4,5
+apply n0 1>2 high 1 normal 1 low 1 listeners 2 created - deleted - changed - joined - left - settings k
+apply n0 2>3 high 2 normal 2 low 2 listeners 3 created a deleted - changed - joined - left - settings -
+apply n0 3>4 high 3 normal 3 low 3 listeners 4 created c deleted - changed - joined - left - settings -
+apply n0 4>5 high 4 normal 4 low 4 listeners 5 created b deleted - changed - joined - left - settings -
+view n0 {"aliases":{},"indices":{"a":1,"b":3,"c":2},"settings":{"k":"1"}}
 state {"cluster":"demo","id":5,"master":"n0","metadata":{"created":3,"indices":{"a":{"aliases":[],"aliases_version":1,"id":1,"open":true,"replicas":1,"settings_version":1,"shards":1,"version":1},"b":{"aliases":[],"aliases_version":1,"id":3,"open":true,"replicas":1,"settings_version":1,"shards":1,"version":1},"c":{"aliases":[],"aliases_version":1,"id":2,"open":true,"replicas":1,"settings_version":1,"shards":1,"version":1}},"settings":{"k":"1"},"version":5},"nodes":{"n0":{"eligible":true}},"term":1,"version":5}
 "#,
     },
@@ -387,6 +448,10 @@ batch 1 queue make at 0 tasks 0.0/0 published 2 id 2 commit 0 diffs 1 fulls 0 ac
 batch 2 queue make at 0 tasks 0.2/1 published 3 id 3 commit 0 diffs 1 fulls 0 accepted 1
 task 0.0 at 0 ok 2
 task 0.2 at 0 ok 3
+node n0 handed 2,3 applied 1,2,3
+apply n0 1>2 high 1 normal 1 low 1 listeners 2 created a deleted - changed - joined - left - settings -
+apply n0 2>3 high 2 normal 2 low 2 listeners 3 created b deleted - changed - joined - left - settings -
+view n0 {"aliases":{},"indices":{"a":1,"b":2},"settings":{}}
 state {"cluster":"demo","id":3,"master":"n0","metadata":{"created":2,"indices":{"a":{"aliases":[],"aliases_version":1,"id":1,"open":true,"replicas":1,"settings_version":1,"shards":1,"version":1},"b":{"aliases":[],"aliases_version":1,"id":2,"open":true,"replicas":1,"settings_version":1,"shards":1,"version":1}},"settings":{},"version":3},"nodes":{"n0":{"eligible":true}},"term":1,"version":3}
 "#,
     },
@@ -406,6 +471,9 @@ state {"cluster":"demo","id":3,"master":"n0","metadata":{"created":2,"indices":{
         written: r#"report 1
 batch 1 queue make at 0 tasks 0.0/0 published 2 id 2 commit 0 diffs 1 fulls 0 accepted 1
 task 0.0 at 0 ok 2
+node n0 handed 2 applied 1,2
+apply n0 1>2 high 1 normal 1 low 1 listeners 2 created a deleted - changed - joined - left - settings -
+view n0 {"aliases":{},"indices":{"a":1},"settings":{}}
 state {"cluster":"demo","id":2,"master":"n0","metadata":{"created":1,"indices":{"a":{"aliases":[],"aliases_version":1,"id":1,"open":true,"replicas":1,"settings_version":1,"shards":1,"version":1}},"settings":{},"version":2},"nodes":{"n0":{"eligible":true}},"term":1,"version":2}
 "#,
     },
@@ -426,6 +494,12 @@ state {"cluster":"demo","id":2,"master":"n0","metadata":{"created":1,"indices":{
 batch 1 queue make at 0 tasks 0.0/0,0.1/0 published 2 id 2 commit 0 diffs 2 fulls 0 accepted 2
 task 0.0 at 0 ok 2
 task 0.1 at 0 ok 2
+node n0 handed 2 applied 1,2
+apply n0 1>2 high 1 normal 1 low 1 listeners 2 created a,b deleted - changed - joined - left - settings -
+view n0 {"aliases":{},"indices":{"a":1,"b":2},"settings":{}}
+node n1 handed 2 applied 1,2
+apply n1 1>2 high 1 normal 1 low 1 listeners 2 created a,b deleted - changed - joined - left - settings -
+view n1 {"aliases":{},"indices":{"a":1,"b":2},"settings":{}}
 state {"cluster":"demo","id":2,"master":"n0","metadata":{"created":2,"indices":{"a":{"aliases":[],"aliases_version":1,"id":1,"open":true,"replicas":1,"settings_version":1,"shards":1,"version":1},"b":{"aliases":[],"aliases_version":1,"id":2,"open":true,"replicas":1,"settings_version":1,"shards":1,"version":1}},"settings":{},"version":2},"nodes":{"n0":{"eligible":true},"n1":{"eligible":true}},"term":1,"version":2}
 "#,
     },
