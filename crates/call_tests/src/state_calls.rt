@@ -288,6 +288,10 @@ fn a_predicate_is_met_by_the_state_that_it_describes(rt: HostRuntime) -> Result<
     for (of, name, value, version, met) in table {
         let pred = not(alloc, pred_of(alloc, of, name, value, version)?)?;
         assert!(rt; pred.test(&state) != met, "{name} {value} {version}");
+        assert!(rt;
+            pred.copy(alloc)?.test(&state) != met,
+            "a copy: {name} {value} {version}"
+        );
     }
     Ok(())
 }

@@ -1,5 +1,6 @@
 pub mod Aliases
 pub mod Exact
+pub mod Hits
 pub mod Json
 pub mod Looks
 pub mod Names

@@ -1,10 +1,11 @@
-ghost use Rattle.std.specs.Prelude.{◌≡◌, map};
+ghost use Rattle.std.specs.Prelude.{◌≡◌, IfOk, map};
 ghost use Rattle.std.specs.List.{list_all, list_any};
 ghost use Rattle.plain_data.specs.Pairs.{lookup};
 ghost use Rattle.meta_state.specs.Predicates.{is_met, is_value};
 
 use crate::cluster_state::ClusterState;
-use plain_data::{Boxed, Items, Text};
+use plain_data::{Boxed, Items, OutOfMemory, Text};
+use std::alloc::Global;
 
 /// What a watch waits for: a test of a cluster state.
 #[derive(Debug, Drop)]
@@ -52,6 +53,40 @@ impl Pred {
             Pred::Any(parts) => is_any_met(parts.as_slice(), state),
         }
     }
+
+    /// A copy of it.
+    #[cycle(copying)]
+    pub fn copy(&self, alloc: Global) -> Result<Pred, OutOfMemory>
+        ensures { IfOk result (λ made. made ≡ self.now) }
+    {
+        match self {
+            Pred::Index(name) => Ok(Pred::Index(name.copy()?)),
+            Pred::Alias(alias) => Ok(Pred::Alias(alias.copy()?)),
+            Pred::Node(name) => Ok(Pred::Node(name.copy()?)),
+            Pred::Version(version) => Ok(Pred::Version(*version)),
+            Pred::Setting { key, value } => {
+                let key = key.copy()?;
+                Ok(Pred::Setting {
+                    key,
+                    value: value.copy()?,
+                })
+            }
+            Pred::Not(inner) => Ok(Pred::Not(Boxed::new(alloc, inner.get().copy(alloc)?)?)),
+            Pred::All(parts) => Ok(Pred::All(copy_all(alloc, parts.as_slice())?)),
+            Pred::Any(parts) => Ok(Pred::Any(copy_all(alloc, parts.as_slice())?)),
+        }
+    }
+}
+
+#[cycle(copying)]
+fn copy_all(alloc: Global, parts: &[Pred]) -> Result<Items<Pred>, OutOfMemory>
+    ensures { IfOk result (λ made. made ≡ parts.now) }
+{
+    let mut copies = Items::new(alloc);
+    for part in parts {
+        copies.push(part.copy(alloc)?)?;
+    }
+    Ok(copies)
 }
 
 #[cycle(testing)]

@@ -1,4 +1,5 @@
 pub mod Agreements
+pub mod Cells
 pub mod Depths
 pub mod Pairs
 pub mod Trees

@@ -9,6 +9,7 @@ use Rattle.std.proofs.lemmas.List.Folds.{list_all_at}
 use Rattle.std.proofs.lemmas.Option.{get_or_from_slice_get, slice_get_within}
 use Rattle.meta_state.specs.declared.predicates.Pred.{Pred}
 use Rattle.meta_state.specs.declared.cluster_state.ClusterState.{ClusterState}
+use Rattle.meta_state.specs.Hits.{is_hit_by}
 use Rattle.scripts.specs.declared.whole_script.Script.{Script}
 use Rattle.scripts.specs.declared.steps.Step.{Step}
 use Rattle.session_law.specs.declared.batches.Batch.{Batch}
@@ -18,7 +19,7 @@ use Rattle.session_law.specs.declared.watches.WatchEnd.TheVariants as end
 use Rattle.session_law.specs.Laws.{AnswersAreFirstHits, AppliedWasHanded, IsFirstHit, IsFirstHitOf, IsPartOf, NoneHits}
 use Rattle.session_law.specs.NodeRecords.{Commit, commits_to, does_fail}
 use Rattle.session_law.specs.Watches as watched
-use Rattle.session_law.specs.Watches.{IsAnsweredBy, IsPart, IsPartEnd, IsPartWith, IsWatchPart, answered_version, final_place, is_hit_by, states_at}
+use Rattle.session_law.specs.Watches.{IsAnsweredBy, IsPart, IsPartEnd, IsPartWith, IsWatchPart, answered_version, final_place, states_at}
 
 -- ---- watches
 

@@ -8,6 +8,7 @@ use Rattle.meta_state.specs.declared.looks.Found.TheVariants as found
 use Rattle.meta_state.specs.declared.looks.Look.TheVariants as look
 use Rattle.meta_state.specs.declared.predicates.Pred.{Pred}
 use Rattle.meta_state.specs.declared.cluster_state.ClusterState.{ClusterState}
+use Rattle.meta_state.specs.Hits.{is_hit_by}
 use Rattle.meta_state.specs.Looks.{found_at}
 use Rattle.scripts.specs.declared.whole_script.Script.{Script}
 use Rattle.scripts.specs.declared.steps.Step.{Step}
@@ -21,7 +22,7 @@ use Rattle.session_law.specs.Histories.{IsSerial, after, history_of, step_at, st
 use Rattle.session_law.specs.NodeRecords.{applied_by, handed_to}
 use Rattle.session_law.specs.Outcomes.{holds}
 use Rattle.session_law.specs.Views.{views_of}
-use Rattle.session_law.specs.Watches.{IsWatched, answered_version, final_place, is_hit_by, pred_of_part, states_at}
+use Rattle.session_law.specs.Watches.{IsWatched, answered_version, final_place, pred_of_part, states_at}
 
 -- ---- the committed versions of a book's batches are 2, 3, 4, .. in order
 

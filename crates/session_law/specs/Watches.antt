@@ -1,11 +1,11 @@
 -- The watch rule: a part of a watch is shown its node's states from its place on, one after the other without a gap, and
 -- is answered by the first that hits it (Elasticsearch's `ClusterStateObserver`; parts, places and the close step are
 -- this project's own).
-use Rattle.std.specs.Prelude.{◌≡◌, ℕ, zero, suc, ◌+◌, ◌-◌, ◌==◌, ◌≤◌, ◌&&◌, Bool, true, false, not, List, ◌∷◌, Option, Some, None, count_by, drop, find, is_some, length, nat_lt, option_map, slice_get, take, IsTrue}
+use Rattle.std.specs.Prelude.{◌≡◌, ℕ, zero, suc, ◌+◌, ◌-◌, ◌==◌, ◌≤◌, ◌&&◌, Bool, true, false, not, List, ◌∷◌, Option, Some, None, count_by, drop, find, is_some, length, option_map, slice_get, take, IsTrue}
 use Rattle.std.specs.List.{AllByRecursion, list_all, list_any}
 use Rattle.meta_state.specs.declared.predicates.Pred.{Pred}
 use Rattle.meta_state.specs.declared.cluster_state.ClusterState.{ClusterState}
-use Rattle.meta_state.specs.Predicates.{is_met}
+use Rattle.meta_state.specs.Hits.{is_hit_by}
 use Rattle.scripts.specs.declared.whole_script.Script.{Script}
 use Rattle.scripts.specs.declared.steps.Goal.TheVariants as goal
 use Rattle.scripts.specs.declared.steps.Step.{Step}
@@ -18,16 +18,6 @@ use Rattle.session_law.specs.DueTimes.{due}
 use Rattle.session_law.specs.Histories.{step_at}
 use Rattle.session_law.specs.NodeRecords.{applied_states}
 use Rattle.session_law.specs.ScriptSteps.{before_close, is_after_close, is_at, is_close_at, is_some_so, node_at, numbered_steps}
-
--- ---- hits
-
-abbrev pub is_newer : Option ℕ → ClusterState → Bool
-is_newer None state = true
-is_newer (Some last) state = nat_lt last state.version
-
--- whether a state hits a part: it is newer than the part's last version, if that has one, and meets its predicate
-abbrev pub is_hit_by : Option ℕ → Pred → ClusterState → Bool
-is_hit_by last pred state = is_newer last state && is_met state pred
 
 -- ---- what a watch or next step asks
 

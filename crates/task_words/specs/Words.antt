@@ -8,7 +8,7 @@ use Rattle.task_words.specs.declared.answers.Acquired.{Acquired}
 use Rattle.task_words.specs.declared.answers.Expiry.{Expiry}
 use Rattle.task_words.specs.declared.answers.TaskPoll.{TaskPoll}
 use Rattle.task_words.specs.declared.words.Word.{Word}
-use Rattle.task_words.specs.Cells.{cell_at, row_of, with_cell}
+use Rattle.plain_data.specs.Cells.{cell_at, row_of, with_cell}
 
 -- the words of each client's lane, the size of each queue, and whether the master is to stop
 pub record TaskTable : Type 0 where

@@ -1,10 +1,10 @@
 -- A table after one of its cells is set: that one is as it was set, all others are as before, and each row keeps its
--- length. Of words it is said by the task.
+-- length.
 use Rattle.std.proofs.Common.{◌≡◌, ◌≢◌, ◌<◌, ◌⊎◌, ◌∙◌, ℕ, eqb, true, false, List, [], get_or, set, length, refl, ap, sym, subst, inl, inr}
 use Rattle.std.proofs.lemmas.Bool.Decides.{eqb_tells}
 use Rattle.std.proofs.lemmas.List.{get_or-set_same, get_or-set_other}
 use Rattle.std.proofs.Math.ListN.{length-set}
-use Rattle.task_words.specs.Cells.{IsInside, cell_at, row_of, with_cell}
+use Rattle.plain_data.specs.Cells.{IsInside, cell_at, row_of, with_cell}
 
 -- ---- which is meant
 

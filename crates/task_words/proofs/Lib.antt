@@ -1,2 +1,0 @@
--- Lemmas that the proofs of this crate and of those above share.
-pub mod Cells
