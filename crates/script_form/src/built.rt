@@ -30,14 +30,8 @@ fn is_step_built(step: &Step) -> bool
     ensures { result ≡ is_built_step step.now }
 {
     match step {
-        Step::Submit {
-            queue: _,
-            task: _,
-            timeout: _,
-            ack,
-        } => ack.is_none(),
+        Step::Submit { .. } | Step::Sleep { .. } => true,
         Step::Await { step: _, goal } => is_goal_built(*goal),
-        Step::Sleep { ms: _ } => true,
         _ => false,
     }
 }
@@ -45,5 +39,8 @@ fn is_step_built(step: &Step) -> bool
 fn is_goal_built(goal: Goal) -> bool
     ensures { result ≡ is_built_goal goal }
 {
-    matches!(goal, Goal::Task)
+    match goal {
+        Goal::Task | Goal::Ack => true,
+        Goal::Watch => false,
+    }
 }
