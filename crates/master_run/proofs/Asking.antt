@@ -1,5 +1,5 @@
 -- What the code of a turn asks holds at a lawful beginning of a session.
-use Rattle.std.specs.Prelude.{◌≡◌, ℕ, Bool, ◌+◌, ◌*◌, ◌<◌, ◌≤◌, true, false, List, [], ◌∷◌, cond, length, map, Option, Some, slice_get}
+use Rattle.std.specs.Prelude.{◌≡◌, ℕ, Bool, ◌+◌, ◌*◌, ◌<◌, ◌≤◌, true, false, List, [], ◌∷◌, cond, length, map, Option, Some, None, slice_get, refl}
 use Rattle.std.specs.List.{AllByRecursion, list_all, sum, sum_by}
 use Rattle.std.proofs.lemmas.Bool.{leb-true}
 use Rattle.std.proofs.Common.{sym, ◌∙◌, ap, subst, arith}
@@ -22,16 +22,19 @@ use Rattle.session_law.specs.Histories.{AreApart, IsApart, IsOwn, step_at}
 use Rattle.master_intake.specs.declared.entries.Waiting.{Waiting}
 use Rattle.master_intake.specs.Waitings.{is_in, taken_from}
 use Rattle.master_run.specs.declared.replays.Replay.{Replay}
-use Rattle.master_run.specs.Courses.{lanes_of, next_at}
+use Rattle.master_run.specs.AckBooks.{is_in_lane}
+use Rattle.master_run.specs.Courses.{lanes_of, next_at, word_of}
 use Rattle.master_run.specs.Replays.{CanAwait, CanSleep, CanStep, CanSubmit, IsSound, course_of}
 use Rattle.master_run.specs.Sessions.{HasLane, HaveLanes}
-use Rattle.master_run.specs.SoFar.{AreApartAmong, IsWaiting, is_vacant, queued_at}
+use Rattle.master_run.specs.SoFar.{AreApartAmong, IsWaiting, is_submit_at, is_vacant, queued_at}
+use Rattle.master_run.proofs.AckLanes.{in_lane}
 use Rattle.master_run.proofs.Bounds.{own_few, steps_few}
 use Rattle.master_run.proofs.Expiring.{can_expire_all}
 use Rattle.master_run.proofs.Joining.{waiting_own}
 use Rattle.master_run.proofs.Keeping.{both_first, both_second}
 use Rattle.master_run.proofs.Positions.{client_within, position_few, row_of_client}
-use Rattle.master_run.proofs.Resting.{passed_before}
+use Rattle.master_run.proofs.Naming.{asks_submit, awaits_asking}
+use Rattle.master_run.proofs.Resting.{passed_before, submitted_before}
 use Rattle.master_run.proofs.Submitting.{is_submitted}
 use Rattle.master_run.proofs.Wordwise.{within_from}
 
@@ -95,11 +98,10 @@ can_submit script replay client queue task timeout ack valid sound e =
       moment = is.row;
     }
 
-pub can_await : (script : Script) (replay : Replay) (client earlier : ℕ) → IsScript script → IsSound script replay
-    → step_at script client (next_at replay.positions client) ≡ Some (Await earlier goal.Task) → CanAwait replay client earlier
-can_await script replay client earlier valid sound e =
-    let steps = can_step script replay client (Await earlier goal.Task) valid sound e in
-    let there = passed_before script (course_of replay) client earlier valid sound.lawful e in
+await_by : (script : Script) (replay : Replay) (client earlier : ℕ) (step : Step) → IsScript script → IsSound script replay → step_at script client (next_at replay.positions client) ≡ Some step
+    → is_vacant (word_of replay.tasks client earlier) ≡ false → CanAwait replay client earlier
+await_by script replay client earlier step valid sound e there =
+    let steps = can_step script replay client step valid sound e in
     let within = within_from replay.tasks client earlier there in
     let places = sound.lawful.performed.places in
     let same = sound.lawful.seen.places in
@@ -111,6 +113,31 @@ can_await script replay client earlier valid sound e =
       within = within;
       submitted = λ none. true≢false (sym (ap is_vacant none) ∙ there);
     }
+
+pub can_await : (script : Script) (replay : Replay) (client earlier : ℕ) → IsScript script → IsSound script replay
+    → step_at script client (next_at replay.positions client) ≡ Some (Await earlier goal.Task) → CanAwait replay client earlier
+can_await script replay client earlier valid sound e =
+    await_by script replay client earlier (Await earlier goal.Task) valid sound e (passed_before script (course_of replay) client earlier valid sound.lawful e)
+
+-- ---- a client's acknowledgement
+
+pub can_await_ack : (script : Script) (replay : Replay) (client earlier : ℕ) → IsScript script → IsSound script replay
+    → step_at script client (next_at replay.positions client) ≡ Some (Await earlier goal.Ack) → CanAwait replay client earlier
+can_await_ack script replay client earlier valid sound e =
+    let named = awaits_asking script client (next_at replay.positions client) earlier valid e in
+    await_by script replay client earlier (Await earlier goal.Ack) valid sound e
+    (submitted_before script (course_of replay) client earlier sound.lawful named.less (asks_submit (step_at script client earlier) named.asked named.asks))
+
+in_lane_by : (script : Script) (lanes : List ℕ) (client step : ℕ) (found : Option Step) → step_at script client step ≡ found → is_submit_at found ≡ true → lanes ≡ lanes_of script → is_in_lane lanes client step ≡ true
+in_lane_by script lanes client step None at e same = absurd (true≢false (sym e))
+in_lane_by script lanes client step (Some s) at e same = subst (λ (l : List ℕ). is_in_lane l client step ≡ true) (sym same) (in_lane script client step s at)
+
+-- the step that it names has a number
+pub awaits_in_lane : (script : Script) (replay : Replay) (client earlier : ℕ) → IsScript script → replay.acks.lanes ≡ lanes_of script
+    → step_at script client (next_at replay.positions client) ≡ Some (Await earlier goal.Ack) → is_in_lane replay.acks.lanes client earlier ≡ true
+awaits_in_lane script replay client earlier valid same e =
+    let named = awaits_asking script client (next_at replay.positions client) earlier valid e in
+    in_lane_by script replay.acks.lanes client earlier (step_at script client earlier) refl (asks_submit (step_at script client earlier) named.asked named.asks) same
 
 pub can_sleep : (script : Script) (replay : Replay) (client ms : ℕ) → IsScript script → IsSound script replay
     → step_at script client (next_at replay.positions client) ≡ Some (Sleep ms) → CanSleep replay client ms

@@ -1,10 +1,8 @@
--- The session that is read off a course at rest: its batches are a serial history, each task ended once, each node's
--- record is the one that the batches make, and the lists stand in order.
-use Rattle.std.specs.Prelude.{◌≡◌, ◌==◌, ℕ, zero, suc, ◌<◌, ◌≤◌, ◌&&◌, Bool, true, false, not, List, [], ◌∷◌, ◌++◌, length, count_by, find, cond, map, bytes_eq, Option, Some, None, option_and_then, slice_get, is_some, nat_lt, refl}
-use Rattle.std.proofs.Common.{sym, ◌∙◌, ap, append-nil, subst, arith}
+-- The session that is read off a course at rest: its batches are a serial history, each task ended once, each
+-- acknowledgement as the law says, each node's record is the one that the batches make, and the lists stand in order.
+use Rattle.std.specs.Prelude.{◌≡◌, ◌==◌, ℕ, ◌&&◌, Bool, true, false, not, List, [], ◌∷◌, ◌++◌, length, count_by, find, cond, map, bytes_eq, Option, Some, None, is_some, nat_lt, refl}
+use Rattle.std.proofs.Common.{sym, ◌∙◌, ap, append-nil, subst}
 use Rattle.std.proofs.Math.Bool.{true≢false}
-use Rattle.std.proofs.lemmas.Bool.Decides.{nat_tests}
-use Rattle.std.proofs.lemmas.Option.{slice_get_within}
 use Rattle.std.specs.List.{AllByRecursion, AllZip, list_any}
 use Rattle.scripts.specs.declared.whole_script.Script.{Script}
 use Rattle.scripts.specs.declared.whole_script.ScriptNode.{ScriptNode}
@@ -30,19 +28,19 @@ use Rattle.session_law.proofs.Collecting.{collected_all, collected_count, collec
 use Rattle.session_law.proofs.History.{tasks_stand_once, versions_are_in_order}
 use Rattle.task_words.specs.declared.words.Word.{Word}
 use Rattle.task_words.specs.declared.words.Word.TheVariants as word
-use Rattle.master_run.specs.Courses.{Course, moment_at, next_at, word_of}
+use Rattle.master_run.specs.Courses.{Course, moment_at, word_of}
 use Rattle.master_run.specs.Endings.{deadline_of, end_of_word}
 use Rattle.master_run.specs.Laws.{RestIsLawful}
 use Rattle.master_run.specs.Nodes.{NodeCourse}
 use Rattle.master_run.specs.Rests.{IsAtRest}
 use Rattle.master_run.specs.Sessions.{record_by, records_by, replies_of, reply_at, reply_by, session_of}
 use Rattle.master_run.specs.SoFar.{IsLawfulSoFar, IsRecordedAt, IsWordLawful, is_over, is_passed, is_submit_at, is_vacant, states_in}
+use Rattle.master_run.proofs.AckResting.{acks_rise, is_acknowledged}
 use Rattle.master_run.proofs.Alls.{all_both, all_by}
-use Rattle.master_run.proofs.Bounds.{stood}
+use Rattle.master_run.proofs.AtEnd.{submits_over}
 use Rattle.master_run.proofs.Distinct.{alone_each, first_each, own_name}
 use Rattle.master_run.proofs.Handing.{applies_to}
-use Rattle.master_run.proofs.Keeping.{both_second, no_some, not_true, or_left, or_right, some_same}
-use Rattle.master_run.proofs.Resting.{over_at_rest}
+use Rattle.master_run.proofs.Keeping.{both_second, no_some, or_left, or_right, some_same}
 use Rattle.master_run.proofs.Taken.{built_at}
 
 -- ---- each reply
@@ -114,23 +112,6 @@ replies_ended script k s (Some told) built h e f =
 
 -- ---- one for each submit
 
-lt_from : (n m k : ℕ) → n < k → k ≤ m → nat_lt n m ≡ true
-lt_from n m k less most = grind (arith, nat_tests)
-
--- where a client is at its end, each of its steps is passed
-beyond : (steps : List Step) (number : ℕ) → slice_get steps number ≡ None → length steps ≤ number
-beyond [] number e = omega arith
-beyond (step ∷ steps) zero e = absurd (no_some step (sym e))
-beyond (step ∷ steps) (suc number) e = let rest = beyond steps number e in omega arith
-
-all_passed : (script : Script) (k : Course) (client number : ℕ) (step : Step) → IsAtRest script k → step_at script client number ≡ Some step → is_passed k.positions client number ≡ true
-all_passed script k client number step rests e =
-    let at = stood script client number step e in
-    let within = slice_get_within at.steps number step at.of_steps in
-    let none : slice_get at.steps (next_at k.positions client) ≡ None =
-    sym (ap (option_and_then (λ steps. slice_get steps (next_at k.positions client))) at.of_client) ∙ rests.ended client in
-    lt_from number (next_at k.positions client) (length at.steps) within (beyond at.steps (next_at k.positions client) none)
-
 over_end : (script : Script) (k : Course) (client step at : ℕ) (timeout : Option ℕ) (w : Word) → IsWordLawful script k.book.batches k.waiting client step at timeout w → is_over w ≡ true
     → is_some (end_of_word at timeout w) ≡ true
 over_end script k client step at timeout word.Vacant h over = absurd (true≢false (sym over))
@@ -148,9 +129,7 @@ told_once : (script : Script) (k : Course) (s : NumberedStep) → IsLawfulSoFar 
 told_once script k s h rests e own =
     let at = moment_at k.ats s.client s.number in
     let w = word_of k.tasks s.client s.number in
-    let there : is_vacant w ≡ false =
-    not_true (is_vacant w) (h.performed.cells s.client s.number ∙ (λ i. all_passed script k s.client s.number s.step rests e i && is_submit_at (e i)) ∙ own) in
-    let over = over_at_rest script k s.client s.number w refl h rests.empty there in
+    let over = submits_over script k s.client s.number s.step h rests e own in
     one_reply s.client s.number at (end_of_word at (task_timeout_of (Some s.step)) w)
     (subst (λ (o : Option Step). is_some (end_of_word at (task_timeout_of o) w) ≡ true) e
     (over_end script k s.client s.number at (task_timeout_of (step_at script s.client s.number)) w (h.ended.words s.client s.number) over))
@@ -230,6 +209,7 @@ rest_is_lawful script k valid built h rests = record {
         (all_both (λ s. step_at script s.client s.number ≡ Some s.step) (λ s. count_by (λ r. is_at s.client s.number r.client r.step) replies ≡ length (reply_at k.tasks k.ats s)) (numbered_steps script)
         (numbered_at script) (collected_count script (λ (r : Reply). r.client) (λ (r : Reply). r.step) (reply_at k.tasks k.ats) (carries k)));
   };
+  acknowledged = is_acknowledged script k h rests;
   recorded =
       let batches = k.book.batches in
       let made = node_record script batches in
@@ -242,7 +222,7 @@ rest_is_lawful script k valid built h rests = record {
   order = record {
     replies = collected_rise script (λ (r : Reply). r.client) (λ (r : Reply). r.step) (reply_at k.tasks k.ats) is_reply_before (carries k) (λ a b less. less)
         (λ s. rises_by s (moment_at k.ats s.client s.number) (end_of_word (moment_at k.ats s.client s.number) (task_timeout_of (Some s.step)) (word_of k.tasks s.client s.number)));
-    acks = refl;
+    acks = acks_rise script k;
     watches = refl;
     reads = refl;
   };

@@ -29,7 +29,7 @@ use Rattle.master_run.specs.Serials.{Serial, first_serial, follow, if_acted, loa
 use Rattle.master_run.specs.Sessions.{session_of}
 use Rattle.master_run.specs.SoFar.{HasSeenSoFar, IsLawfulSoFar, IsWordLawful, is_submit_at, is_vacant}
 use Rattle.master_run.proofs.Closing.{rest_is_lawful}
-use Rattle.master_run.proofs.Keeping.{kept_first}
+use Rattle.master_run.proofs.Keeping.{kept_first, no_some}
 use Rattle.master_run.proofs.Recording.{recorded_first}
 use Rattle.master_run.proofs.Resting.{is_at_rest, play_on_time, round_less, round_still}
 use Rattle.master_run.proofs.Turning.{IsOnTime, client_keeps, master_keeps, node_keeps, sound_now}
@@ -94,6 +94,7 @@ first_lawful script = record {
   };
   told = record { queues = length-replicate (length script.queues) 0; sizes = λ q. none_size (length script.queues) q; stopped = refl };
   recorded = recorded_first script;
+  lapsed = λ c s reading e. absurd (no_some reading e);
 }
 
 pub first_on_time : (script : Script) → IsOnTime script (first_serial script)

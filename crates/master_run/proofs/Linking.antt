@@ -54,7 +54,7 @@ use Rattle.master_run.specs.Events.{Event, event}
 use Rattle.master_run.specs.Serials.{Serial, after_step, after_turn, at_clock, client_turn, first_serial, node_number, node_turn}
 use Rattle.master_run.specs.Servings.{has_some_in}
 use Rattle.master_run.specs.SoFar.{IsLawfulSoFar}
-use Rattle.master_run.specs.Steps.{awaited_by, batch_told, moved_on, next_step_of, performed, step_by, submitted_by, waiting_of}
+use Rattle.master_run.specs.Steps.{ack_end_in, ack_told, awaited_by, batch_told, moved_on, next_step_of, performed, step_by, submitted_by, waiting_of}
 use Rattle.master_run.specs.StepsLeft.{steps_left}
 use Rattle.master_run.proofs.Adding.{scripted_reached, scripted_step}
 use Rattle.master_run.proofs.Alls.{all_by}
@@ -226,12 +226,13 @@ await_less script k now client (Some batch) e =
     moved_less script k now client (ap (λ (c : Course). c.book.world) (sym same)) (ap (λ (c : Course). c.positions) (sym same)) (ap (λ (c : Course). c.waiting) (sym same))
 
 step_less : (script : Script) (k now : Course) (client at : ℕ) (found : Option Step) → IsLawfulSoFar script k → step_at script client (next_at k.positions client) ≡ found
-    → step_by k client at found ≡ Some now → IsLess script k now
+    → step_by script k client at found ≡ Some now → IsLess script k now
 step_less script k now client at None h e f = absurd (no_some now f)
 step_less script k now client at (Some (Submit queue task timeout ack)) h e f =
     subst (IsLess script k) (some_same _ now f) (submit_less script k client at queue task timeout ack h e)
 step_less script k now client at (Some (Await earlier goal.Task)) h e f = await_less script k now client (batch_told (word_of k.tasks client earlier)) f
-step_less script k now client at (Some (Await earlier goal.Ack)) h e f = absurd (no_some now f)
+step_less script k now client at (Some (Await earlier goal.Ack)) h e f =
+    await_less script k now client (ack_told (ack_end_in script k client earlier) (word_of k.tasks client earlier)) f
 step_less script k now client at (Some (Await earlier goal.Watch)) h e f = absurd (no_some now f)
 step_less script k now client at (Some (Watch _ _ _ _)) h e f = absurd (no_some now f)
 step_less script k now client at (Some (Next _ _ _ _)) h e f = absurd (no_some now f)
@@ -247,7 +248,7 @@ pub linked_by_step : (script : Script) (k now : Course) (client at : ℕ) (links
 linked_by_step script k now client at links h e linked =
     linked_less script k now links (step_less script k now client at (next_step_of script k client) h refl e) linked
 
-mapped_links : (script : Script) (k now : Course) (clock : ℕ) (step : Option Step) (links : List LinkMeaning) → IsLinked script now links → IsLinked script (after_step step (at_clock clock now)).course links
+mapped_links : (script : Script) (k now : Course) (clock : ℕ) (step : Option Step) (links : List LinkMeaning) → IsLinked script now links → IsLinked script (after_step script step (at_clock clock now)).course links
 mapped_links script k now clock None links h = h
 mapped_links script k now clock (Some (Submit _ _ _ _)) links h = h
 mapped_links script k now clock (Some (Await _ _)) links h = h
@@ -258,7 +259,7 @@ mapped_links script k now clock (Some (Sleep ms)) links h = record { of = h.of; 
 mapped_links script k now clock (Some Close) links h = h
 
 turn_links : (script : Script) (client : ℕ) (s t : Serial) (o : Option Course) (acted : Bool) (links : List LinkMeaning) → performed script client s.clock s.course ≡ o → IsLawfulSoFar script s.course
-    → after_turn (false, s) (option_map (λ k. after_step (next_step_of script s.course client) (at_clock s.clock k)) o) ≡ (acted, t) → IsLinked script s.course links → IsLinked script t.course links
+    → after_turn (false, s) (option_map (λ k. after_step script (next_step_of script s.course client) (at_clock s.clock k)) o) ≡ (acted, t) → IsLinked script s.course links → IsLinked script t.course links
 turn_links script client s t None acted links e h f linked = subst (λ (u : Serial). IsLinked script u.course links) (ap (λ (p : Bool × Serial). p.1) f) linked
 turn_links script client s t (Some k) acted links e h f linked =
     subst (λ (u : Serial). IsLinked script u.course links) (ap (λ (p : Bool × Serial). p.1) f)

@@ -1,13 +1,16 @@
--- What an await for a task names: an earlier submit of the same client.
+-- What an await for a task names: an earlier submit of the same client. One for an acknowledgement names a submit that
+-- asks for one.
 use Rattle.std.specs.Prelude.{◌≡◌, ℕ, zero, suc, ◌<◌, true, List, [], ◌∷◌, ◌++◌, take, Option, Some, None, option_and_then, slice_get, refl}
 use Rattle.std.proofs.Common.{sym, ◌∙◌, ap, arith, append-nil, append_assoc}
 use Rattle.std.proofs.Math.Bool.{true≢false}
 use Rattle.scripts.specs.declared.whole_script.Script.{Script}
+use Rattle.scripts.specs.declared.steps.Ack.{Ack}
 use Rattle.scripts.specs.declared.steps.Goal.TheVariants as goal
 use Rattle.scripts.specs.declared.steps.Step.{Step}
 use Rattle.scripts.specs.declared.steps.Step.TheVariants.{Submit, Await, Watch, Next, Read, Sleep, Close}
 use Rattle.scripts.specs.Scripts.{IsScript}
 use Rattle.scripts.specs.ValidSteps.{are_steps, is_client, is_goal, is_step}
+use Rattle.session_law.specs.Acknowledgements.{asked_ack}
 use Rattle.session_law.specs.Histories.{step_at}
 use Rattle.master_run.specs.SoFar.{is_submit_at}
 use Rattle.master_run.proofs.Bounds.{all_get, stood}
@@ -53,3 +56,42 @@ awaits_submit script client number earlier valid e =
     let steps = all_get (is_client script.nodes script.queues) script.clients client at.steps valid.clients at.of_client in
     named_by script client number earlier at.steps (slice_get (take number at.steps) earlier) at.of_client refl
     (step_placed script [] at.steps number (Await earlier goal.Task) (both_second _ _ steps) at.of_steps)
+
+-- ---- an acknowledgement
+
+-- a step that asks for one is a submit
+pub asks_submit : (found : Option Step) (asked : Ack) → asked_ack found ≡ Some asked → is_submit_at found ≡ true
+asks_submit None asked e = absurd (no_some asked e)
+asks_submit (Some (Submit _ _ _ _)) asked e = refl
+asks_submit (Some (Await _ _)) asked e = absurd (no_some asked e)
+asks_submit (Some (Watch _ _ _ _)) asked e = absurd (no_some asked e)
+asks_submit (Some (Next _ _ _ _)) asked e = absurd (no_some asked e)
+asks_submit (Some (Read _ _)) asked e = absurd (no_some asked e)
+asks_submit (Some (Sleep _)) asked e = absurd (no_some asked e)
+asks_submit (Some Close) asked e = absurd (no_some asked e)
+
+pub record IsAsking (script : Script) (client number earlier : ℕ) : Type 0 where
+  pub less : earlier < number
+  pub asked : Ack
+  pub asks : asked_ack (step_at script client earlier) ≡ Some asked
+
+asking_by : (script : Script) (client count number : ℕ) (steps : List Step) (found : Option Step) → slice_get script.clients client ≡ Some steps → slice_get (take count steps) number ≡ found
+    → is_goal goal.Ack found ≡ true → IsAsking script client count number
+asking_by script client count number steps None e f h = absurd (true≢false (sym h))
+asking_by script client count number steps (Some (Submit queue task timeout None)) e f h = absurd (true≢false (sym h))
+asking_by script client count number steps (Some (Submit queue task timeout (Some asked))) e f h =
+    let among = among_first steps count number (Submit queue task timeout (Some asked)) f in
+    record { less = among.less; asked = asked; asks = ap asked_ack (ap (option_and_then (λ steps. slice_get steps number)) e ∙ among.there) }
+asking_by script client count number steps (Some (Await _ _)) e f h = absurd (true≢false (sym h))
+asking_by script client count number steps (Some (Watch _ _ _ _)) e f h = absurd (true≢false (sym h))
+asking_by script client count number steps (Some (Next _ _ _ _)) e f h = absurd (true≢false (sym h))
+asking_by script client count number steps (Some (Read _ _)) e f h = absurd (true≢false (sym h))
+asking_by script client count number steps (Some (Sleep _)) e f h = absurd (true≢false (sym h))
+asking_by script client count number steps (Some Close) e f h = absurd (true≢false (sym h))
+
+pub awaits_asking : (script : Script) (client number earlier : ℕ) → IsScript script → step_at script client number ≡ Some (Await earlier goal.Ack) → IsAsking script client number earlier
+awaits_asking script client number earlier valid e =
+    let at = stood script client number (Await earlier goal.Ack) e in
+    let steps = all_get (is_client script.nodes script.queues) script.clients client at.steps valid.clients at.of_client in
+    asking_by script client number earlier at.steps (slice_get (take number at.steps) earlier) at.of_client refl
+    (step_placed script [] at.steps number (Await earlier goal.Ack) (both_second _ _ steps) at.of_steps)

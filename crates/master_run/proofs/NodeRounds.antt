@@ -1,5 +1,5 @@
 -- A node's turn by its number: a replay stays sound, and its links stay those of its nodes, with nothing left to pass on.
--- And a round's turns of its nodes, one after the other.
+-- And a round's turns of its nodes and of its clients, one after the other.
 use Rattle.std.specs.Prelude.{◌≡◌, ℕ, zero, suc, ◌+◌, ◌<◌, ◌≤◌, Bool, true, false, List, [], ◌∷◌, drop, length, map, set, Option, Some, None, slice_get, slice_set, refl, Result, Ok, Err, IfOk, OnOk, if◌then◌else◌}
 use Rattle.std.specs.List.{AllZip}
 use Rattle.std.proofs.Common.{Global, Vec, sym, ◌∙◌, ap, subst, arith}
@@ -9,6 +9,7 @@ use Rattle.node_apply.specs.Applying.{Node, after_next, fails_next, last_of_node
 use Rattle.node_apply.specs.NodeLinks.{NodeLinkView}
 use Rattle.plain_data.specs.declared.memory.OutOfMemory.{OutOfMemory}
 use Rattle.publication.specs.LinkMeanings.{LinkMeaning}
+use Rattle.scripts.specs.declared.steps.Step.{Step}
 use Rattle.scripts.specs.declared.whole_script.Script.{Script}
 use Rattle.scripts.specs.declared.whole_script.ScriptNode.{ScriptNode}
 use Rattle.scripts.specs.Scripts.{IsScript}
@@ -19,7 +20,7 @@ use Rattle.master_run.specs.Events.{Event, event}
 use Rattle.master_run.specs.Linked.{IsLinked}
 use Rattle.master_run.specs.Passing.{ArePassed, IsPassed, meanings_of}
 use Rattle.master_run.specs.Replays.{AreEnds, IsSound, course_of, serial_of}
-use Rattle.master_run.specs.Serials.{Serial, after_turn, at_clock, node_turns, play, turn_at}
+use Rattle.master_run.specs.Serials.{Serial, after_turn, at_clock, client_turn, client_turns, node_turns, play, turn_at}
 use Rattle.master_run.proofs.Distinct.{node_turn_at}
 use Rattle.master_run.proofs.Keeping.{no_some, some_same}
 use Rattle.master_run.proofs.Linking.{linked_by_apply}
@@ -170,3 +171,25 @@ pub nodes_led : (script : Script) (number : ℕ) (acted b now : Bool) (s t : Ser
     → play script (node_turns (drop (number + 1) script.nodes)) (now, t) ≡ all
 nodes_led script number acted b now s t all valid there leads e f =
     ap (λ (c : Bool). play script (node_turns (drop (number + 1) script.nodes)) (c, t)) f ∙ nodes_go_on script number acted b s t all valid there leads e
+
+-- ---- a round's turns of its clients
+
+-- from a client on, after its turn
+clients_go_on : (script : Script) (client : ℕ) (acted b : Bool) (s t : Serial) (all : Bool × Serial) → client < length script.clients
+    → play script (client_turns client (drop client script.clients)) (acted, s) ≡ all → after_turn (false, s) (client_turn script client s) ≡ (b, t)
+    → play script (client_turns (client + 1) (drop (client + 1) script.clients)) ((if b then true else acted), t) ≡ all
+clients_go_on script client acted b s t all there leads e =
+    let d = drop_at script.clients client there in
+    let rest = client_turns (client + 1) (drop (suc client) script.clients) in
+    ap (λ (n : ℕ). play script (client_turns (client + 1) (drop n script.clients)) ((if b then true else acted), t)) (sym (one_more client))
+    ∙ sym (ap (play script rest) (either_acts acted b s t (client_turn script client s) e))
+    ∙ ap (λ (clients : List (List Step)). play script (client_turns client clients) (acted, s)) (sym d.1.1) ∙ leads
+
+pub clients_led : (script : Script) (place client : ℕ) (acted b now : Bool) (s t : Serial) (all : Bool × Serial) → client ≡ place → place < length script.clients
+    → play script (client_turns client (drop place script.clients)) (acted, s) ≡ all → after_turn (false, s) (client_turn script client s) ≡ (b, t) → now ≡ (if b then true else acted)
+    → play script (client_turns (client + 1) (drop (place + 1) script.clients)) (now, t) ≡ all
+clients_led script place client acted b now s t all same there leads e f =
+    subst (λ (n : ℕ). play script (client_turns (client + 1) (drop (n + 1) script.clients)) (now, t) ≡ all) same
+    (ap (λ (c : Bool). play script (client_turns (client + 1) (drop (client + 1) script.clients)) (c, t)) f
+    ∙ clients_go_on script client acted b s t all (subst (λ (n : ℕ). n < length script.clients) (sym same) there)
+    (subst (λ (n : ℕ). play script (client_turns client (drop n script.clients)) (acted, s) ≡ all) (sym same) leads) e)

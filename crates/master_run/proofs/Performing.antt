@@ -1,5 +1,5 @@
 -- A client that performs a step leaves a course lawful so far: a submit, an await, a sleep.
-use Rattle.std.specs.Prelude.{◌≡◌, ◌≢◌, ℕ, ◌+◌, ◌<◌, ◌⊎◌, Bool, true, false, not, ◌&&◌, ◌==◌, max, List, length, Option, Some, slice_set, refl}
+use Rattle.std.specs.Prelude.{◌≡◌, ◌≢◌, ℕ, ◌+◌, ◌<◌, ◌⊎◌, Bool, true, false, not, ◌&&◌, ◌==◌, max, List, length, Option, Some, None, slice_set, refl}
 use Rattle.std.proofs.Common.{sym, ◌∙◌, ap, subst, arith, inl, inr}
 use Rattle.std.proofs.Math.Bool.{true≢false}
 use Rattle.std.proofs.lemmas.List.{get_or-set_other, get_or-set_same, length-set}
@@ -10,21 +10,24 @@ use Rattle.scripts.specs.declared.steps.Step.{Step}
 use Rattle.scripts.specs.declared.steps.Step.TheVariants.{Await, Sleep}
 use Rattle.scripts.specs.Scripts.{is_submit}
 use Rattle.session_law.specs.declared.batches.Batch.{Batch}
+use Rattle.session_law.specs.declared.replies.AckEnd.{AckEnd}
 use Rattle.session_law.specs.Endings.{does_await_task, task_timeout_of}
 use Rattle.session_law.specs.Histories.{Queued, queued_of, step_at}
 use Rattle.session_law.specs.ScriptSteps.{is_at}
 use Rattle.session_law.specs.Outcomes.{batch_number_of}
 use Rattle.session_law.specs.SerialHistories.{awaited_batch, seen_of}
 use Rattle.session_law.proofs.Growth.{seen_next}
+use Rattle.task_words.specs.declared.end_codes.Outcome.{Outcome}
+use Rattle.task_words.specs.declared.end_codes.Outcome.TheVariants as outcome
 use Rattle.task_words.specs.declared.words.Word.{Word}
 use Rattle.task_words.specs.declared.words.Word.TheVariants as word
 use Rattle.task_words.specs.Words.{TaskTable}
-use Rattle.task_words.proofs.Cells.{same_or_not}
+use Rattle.plain_data.proofs.Cells.{same_or_not}
 use Rattle.master_intake.specs.declared.entries.Waiting.{Waiting}
 use Rattle.master_run.specs.Books.{Chronicle}
 use Rattle.master_run.specs.Courses.{Course, moment_at, next_at, seen_at, word_of}
 use Rattle.master_run.specs.SoFar.{IsLawfulSoFar, IsOrderedSoFar, IsPassed, IsPassedSoFar, IsPerformed, IsSeenSoFar, IsWaiting, IsWordLawful, is_over, is_passed, is_submit_at, is_vacant}
-use Rattle.master_run.specs.Steps.{batch_told, moved_on, slept_by}
+use Rattle.master_run.specs.Steps.{ack_told, batch_told, code_told, moved_on, slept_by}
 use Rattle.master_run.proofs.Alls.{all_by}
 use Rattle.master_run.proofs.Keeping.{no_some, some_same}
 use Rattle.master_run.proofs.Positions.{client_within, next_other, next_rises, next_same, not_passed, passed_now, passed_or_now, passed_other}
@@ -139,6 +142,7 @@ sleep_keeps script k client ms h at =
       ended = h.ended;
       told = h.told;
       recorded = h.recorded;
+      lapsed = h.lapsed;
     }
 
 -- ---- an await
@@ -159,28 +163,70 @@ told_over (word.Taken seen before) batch e = absurd (no_some batch e)
 told_over (word.Ended code) batch e = refl
 told_over (word.Timed reading) batch e = refl
 
+-- so it is of an await for an acknowledgement, whatever the end of that is
+code_batch : (before batch : ℕ) (end : Option AckEnd) (o : Outcome) → code_told before end o ≡ Some batch → before ≡ batch
+code_batch before batch None (outcome.Ok version) e = absurd (no_some batch e)
+code_batch before batch (Some end) (outcome.Ok version) e = some_same before batch e
+code_batch before batch end (outcome.Unchanged version) e = some_same before batch e
+code_batch before batch end (outcome.Refused refusal) e = some_same before batch e
+code_batch before batch end (outcome.BatchFailed position refusal) e = some_same before batch e
+code_batch before batch end outcome.NotMaster e = some_same before batch e
+code_batch before batch end outcome.PublishFailed e = some_same before batch e
+code_batch before batch end outcome.Closed e = some_same before batch e
+
+ack_batch : (script : Script) (batches : List Batch) (waiting : List Waiting) (client step at : ℕ) (timeout : Option ℕ) (end : Option AckEnd) (w : Word) (batch : ℕ)
+    → IsWordLawful script batches waiting client step at timeout w → ack_told end w ≡ Some batch → batch ≡ batch_number_of batches client step
+ack_batch script batches waiting client step at timeout end word.Vacant batch h e = absurd (no_some batch e)
+ack_batch script batches waiting client step at timeout end (word.Queued seen deadline) batch h e = absurd (no_some batch e)
+ack_batch script batches waiting client step at timeout end (word.Taken seen before) batch h e = absurd (no_some batch e)
+ack_batch script batches waiting client step at timeout end (word.Ended code) batch h e = sym (code_batch code.batch batch end code.outcome e) ∙ h.number
+ack_batch script batches waiting client step at timeout end (word.Timed reading) batch h e = sym (some_same 0 batch e) ∙ sym h.number
+
+ack_over : (end : Option AckEnd) (w : Word) (batch : ℕ) → ack_told end w ≡ Some batch → is_over w ≡ true
+ack_over end word.Vacant batch e = absurd (no_some batch e)
+ack_over end (word.Queued seen deadline) batch e = absurd (no_some batch e)
+ack_over end (word.Taken seen before) batch e = absurd (no_some batch e)
+ack_over end (word.Ended code) batch e = refl
+ack_over end (word.Timed reading) batch e = refl
+
 one_awaited : (earlier other : ℕ) (tasks : TaskTable) (client : ℕ) → (earlier == other) ≡ true → is_over (word_of tasks client earlier) ≡ true → is_over (word_of tasks client other) ≡ true
 one_awaited earlier other tasks client e h = subst (λ (x : ℕ). is_over (word_of tasks client x) ≡ true) ((unsigned_Decides earlier other).0 e) h
+
+-- a step that awaits a task or its acknowledgement, where the task is over
+await_by : (script : Script) (k : Course) (client earlier batch : ℕ) (step : Step) → IsLawfulSoFar script k → step_at script client (next_at k.positions client) ≡ Some step → is_submit step ≡ false
+    → awaited_batch k.book.batches client step ≡ batch_number_of k.book.batches client earlier → ((other : ℕ) → does_await_task other step ≡ (earlier == other))
+    → batch ≡ batch_number_of k.book.batches client earlier → is_over (word_of k.tasks client earlier) ≡ true
+    → IsLawfulSoFar script (record k { positions = moved_on k.positions client; awaited = slice_set k.awaited client (max (seen_at k.awaited client) batch) })
+await_by script k client earlier batch step h at none names awaits number over =
+    let within = client_within script k.positions client (next_at k.positions client) step h.performed.places at in
+    let greatest = max (seen_at k.awaited client) batch in
+    let place : client < length k.awaited = let places = h.seen.places in let same = h.performed.places in omega arith in
+    record {
+      performed = performed_on script k.positions k.tasks k.ats client step h.performed at none within;
+      ordered = ordered_on script k.book k.waiting k.positions client h.ordered;
+      seen = seen_on script k.book.batches k.tasks k.positions k.awaited (slice_set k.awaited client greatest) client step h.seen within at
+          (length-set k.awaited client greatest)
+          (get_or-set_same k.awaited client greatest 0 place ∙ ap (λ (n : ℕ). max (seen_at k.awaited client) n) (number ∙ sym names))
+          (λ x differs. get_or-set_other k.awaited client x greatest 0 differs);
+      passed = passed_on script k.positions k.tasks client step h.passed within at (λ other e. one_awaited earlier other k.tasks client (sym (awaits other) ∙ e) over);
+      ended = h.ended;
+      told = h.told;
+      recorded = h.recorded;
+      lapsed = h.lapsed;
+    }
 
 pub await_keeps : (script : Script) (k : Course) (client earlier batch : ℕ) → IsLawfulSoFar script k → step_at script client (next_at k.positions client) ≡ Some (Await earlier goal.Task)
     → batch_told (word_of k.tasks client earlier) ≡ Some batch
     → IsLawfulSoFar script (record k { positions = moved_on k.positions client; awaited = slice_set k.awaited client (max (seen_at k.awaited client) batch) })
 await_keeps script k client earlier batch h at told =
-    let within = client_within script k.positions client (next_at k.positions client) (Await earlier goal.Task) h.performed.places at in
-    let greatest = max (seen_at k.awaited client) batch in
-    let place : client < length k.awaited = let places = h.seen.places in let same = h.performed.places in omega arith in
-    record {
-      performed = performed_on script k.positions k.tasks k.ats client (Await earlier goal.Task) h.performed at refl within;
-      ordered = ordered_on script k.book k.waiting k.positions client h.ordered;
-      seen = seen_on script k.book.batches k.tasks k.positions k.awaited (slice_set k.awaited client greatest) client (Await earlier goal.Task) h.seen within at
-          (length-set k.awaited client greatest)
-          (get_or-set_same k.awaited client greatest 0 place
-          ∙ ap (λ (n : ℕ). max (seen_at k.awaited client) n)
-          (told_batch script k.book.batches k.waiting client earlier (moment_at k.ats client earlier) (task_timeout_of (step_at script client earlier)) (word_of k.tasks client earlier) batch (h.ended.words client earlier) told))
-          (λ x differs. get_or-set_other k.awaited client x greatest 0 differs);
-      passed = passed_on script k.positions k.tasks client (Await earlier goal.Task) h.passed within at
-          (λ other e. one_awaited earlier other k.tasks client e (told_over (word_of k.tasks client earlier) batch told));
-      ended = h.ended;
-      told = h.told;
-      recorded = h.recorded;
-    }
+    await_by script k client earlier batch (Await earlier goal.Task) h at refl refl (λ other. refl)
+    (told_batch script k.book.batches k.waiting client earlier (moment_at k.ats client earlier) (task_timeout_of (step_at script client earlier)) (word_of k.tasks client earlier) batch (h.ended.words client earlier) told)
+    (told_over (word_of k.tasks client earlier) batch told)
+
+pub await_ack_keeps : (script : Script) (k : Course) (client earlier batch : ℕ) (end : Option AckEnd) → IsLawfulSoFar script k → step_at script client (next_at k.positions client) ≡ Some (Await earlier goal.Ack)
+    → ack_told end (word_of k.tasks client earlier) ≡ Some batch
+    → IsLawfulSoFar script (record k { positions = moved_on k.positions client; awaited = slice_set k.awaited client (max (seen_at k.awaited client) batch) })
+await_ack_keeps script k client earlier batch end h at told =
+    await_by script k client earlier batch (Await earlier goal.Ack) h at refl refl (λ other. refl)
+    (ack_batch script k.book.batches k.waiting client earlier (moment_at k.ats client earlier) (task_timeout_of (step_at script client earlier)) end (word_of k.tasks client earlier) batch (h.ended.words client earlier) told)
+    (ack_over end (word_of k.tasks client earlier) batch told)

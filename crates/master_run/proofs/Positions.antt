@@ -10,8 +10,8 @@ use Rattle.scripts.specs.declared.steps.Step.{Step}
 use Rattle.scripts.specs.Scripts.{IsScript}
 use Rattle.session_law.specs.Histories.{step_at}
 use Rattle.session_law.specs.ScriptSteps.{is_at}
-use Rattle.task_words.specs.Cells.{IsInside, row_of, with_cell}
-use Rattle.task_words.proofs.Cells.{same_or_not}
+use Rattle.plain_data.specs.Cells.{IsInside, row_of, with_cell}
+use Rattle.plain_data.proofs.Cells.{same_or_not}
 use Rattle.master_run.specs.Courses.{lanes_of, next_at}
 use Rattle.master_run.specs.SoFar.{is_passed}
 use Rattle.master_run.specs.Steps.{moved_on}

@@ -65,7 +65,7 @@ abbrev stepped_so : Batch → Stepped × World → SteppedBatch
 stepped_so batch step = record { batch = batch; stepped = step.0; world = step.1 }
 
 -- what is noted in a kept book is the batch as it is stepped behind the others
-noted_stepped : (script : Script) (book : Chronicle) (number : ℕ) (queue : QueueSpec) (entries : List Entry) (at commit : ℕ) → IsScript script → IsKeptBook script book
+pub noted_stepped : (script : Script) (book : Chronicle) (number : ℕ) (queue : QueueSpec) (entries : List Entry) (at commit : ℕ) → IsScript script → IsKeptBook script book
     → slice_get script.queues number ≡ Some queue
     → last_stepped (noted book queue entries at (ran_at script book.world queue entries commit)) ≡ Some (next_stepped script book.batches (batch_of script book queue entries at commit))
 noted_stepped script book number queue entries at commit valid kept e =
@@ -154,6 +154,7 @@ apply_keeps script k now number h e =
       told = h.told;
       recorded = zip_set (IsRecordedAt script k.book.batches) script.nodes k.nodes number a.node (record (node_taking script a.node.name a.commit a.has) { left = a.more }) h.recorded a.of_script
           (applied_one script k.book.batches a.node a.has a.commit a.more a.left at);
+      lapsed = h.lapsed;
     })
 
 -- ---- what the rule says of lengths

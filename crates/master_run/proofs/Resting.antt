@@ -33,14 +33,15 @@ use Rattle.master_run.specs.Nodes.{NodeCourse, applied_node, first_applied, hand
 use Rattle.master_run.specs.Rests.{IsAtRest}
 use Rattle.master_run.specs.Serials.{Serial, after_step, after_turn, at_clock, client_turn, client_turns, go_on, if_acted, load, master_turn, node_number, node_turn, node_turns, play, rest, round_turns, turn_of, turned}
 use Rattle.master_run.specs.Servings.{got_from, has_some_in, ran, served}
-use Rattle.master_run.specs.SoFar.{IsLawfulSoFar, IsRecordedAt, IsWordLawful, is_entry_of, is_over, is_passed, is_vacant}
-use Rattle.master_run.specs.Steps.{awaited_by, batch_told, moved_on, next_step_of, performed, step_by, submitted_by, waiting_of}
+use Rattle.master_run.specs.SoFar.{IsLawfulSoFar, IsRecordedAt, IsWordLawful, is_entry_of, is_over, is_passed, is_submit_at, is_vacant}
+use Rattle.master_run.specs.Steps.{ack_end_in, ack_told, awaited_by, batch_told, moved_on, next_step_of, performed, step_by, submitted_by, waiting_of}
 use Rattle.master_run.specs.StepsLeft.{always, steps_left}
+use Rattle.master_run.proofs.AckOver.{ack_acts}
 use Rattle.master_run.proofs.Bounds.{stood}
 use Rattle.master_run.proofs.Distinct.{node_turn_at}
 use Rattle.master_run.proofs.Keeping.{no_some, not_true, some_same}
 use Rattle.master_run.proofs.Linking.{fewer_wait}
-use Rattle.master_run.proofs.Naming.{awaits_submit}
+use Rattle.master_run.proofs.Naming.{asks_submit, awaits_asking, awaits_submit}
 use Rattle.master_run.proofs.Places.{all_at, all_mapped, all_placed}
 use Rattle.master_run.proofs.Recording.{is_applied}
 use Rattle.master_run.proofs.StepsLeft.{kind_falls}
@@ -89,20 +90,22 @@ moved_falls script k now client step h e positions waiting nodes =
     (stepped_less (length script.nodes) (steps_left always script.clients k.positions) (steps_left always script.clients (moved_on k.positions client)) (length k.waiting) (length k.waiting)
     (left_in k.nodes) (omega arith) (omega arith))
 
-await_falls : (script : Script) (k now : Course) (client earlier : ℕ) (found : Option ℕ) → IsLawfulSoFar script k → step_at script client (next_at k.positions client) ≡ Some (Await earlier goal.Task)
+await_falls : (script : Script) (k now : Course) (client : ℕ) (step : Step) (found : Option ℕ) → IsLawfulSoFar script k → step_at script client (next_at k.positions client) ≡ Some step
     → awaited_by k client found ≡ Some now → load script now < load script k
-await_falls script k now client earlier None h e f = absurd (no_some now f)
-await_falls script k now client earlier (Some batch) h e f =
+await_falls script k now client step None h e f = absurd (no_some now f)
+await_falls script k now client step (Some batch) h e f =
     let same = some_same _ now f in
-    moved_falls script k now client (Await earlier goal.Task) h e (ap (λ (c : Course). c.positions) same) (ap (λ (c : Course). c.waiting) same) (ap (λ (c : Course). c.nodes) same)
+    moved_falls script k now client step h e (ap (λ (c : Course). c.positions) same) (ap (λ (c : Course). c.waiting) same) (ap (λ (c : Course). c.nodes) same)
 
 step_falls : (script : Script) (k now : Course) (client at : ℕ) (found : Option Step) → IsLawfulSoFar script k → step_at script client (next_at k.positions client) ≡ found
-    → step_by k client at found ≡ Some now → load script now < load script k
+    → step_by script k client at found ≡ Some now → load script now < load script k
 step_falls script k now client at None h e f = absurd (no_some now f)
 step_falls script k now client at (Some (Submit queue task timeout ack)) h e f =
     subst (λ (c : Course). load script c < load script k) (some_same _ now f) (submit_falls script k client at queue task timeout ack h e)
-step_falls script k now client at (Some (Await earlier goal.Task)) h e f = await_falls script k now client earlier (batch_told (word_of k.tasks client earlier)) h e f
-step_falls script k now client at (Some (Await earlier goal.Ack)) h e f = absurd (no_some now f)
+step_falls script k now client at (Some (Await earlier goal.Task)) h e f =
+    await_falls script k now client (Await earlier goal.Task) (batch_told (word_of k.tasks client earlier)) h e f
+step_falls script k now client at (Some (Await earlier goal.Ack)) h e f =
+    await_falls script k now client (Await earlier goal.Ack) (ack_told (ack_end_in script k client earlier) (word_of k.tasks client earlier)) h e f
 step_falls script k now client at (Some (Await earlier goal.Watch)) h e f = absurd (no_some now f)
 step_falls script k now client at (Some (Watch _ _ _ _)) h e f = absurd (no_some now f)
 step_falls script k now client at (Some (Next _ _ _ _)) h e f = absurd (no_some now f)
@@ -112,7 +115,7 @@ step_falls script k now client at (Some (Sleep ms)) h e f =
     moved_falls script k now client (Sleep ms) h e (ap (λ (c : Course). c.positions) same) (ap (λ (c : Course). c.waiting) same) (ap (λ (c : Course). c.nodes) same)
 step_falls script k now client at (Some Close) h e f = absurd (no_some now f)
 
-after_load : (script : Script) (s : Serial) (step : Option Step) → load script (after_step step s).course ≡ load script s.course
+after_load : (script : Script) (s : Serial) (step : Option Step) → load script (after_step script step s).course ≡ load script s.course
 after_load script s None = refl
 after_load script s (Some (Submit _ _ _ _)) = refl
 after_load script s (Some (Await _ _)) = refl
@@ -125,7 +128,7 @@ after_load script s (Some Close) = refl
 client_falls : (script : Script) (client : ℕ) (s t : Serial) → IsLawfulSoFar script s.course → client_turn script client s ≡ Some t → load script t.course < load script s.course
 client_falls script client s t h e =
     let step = next_step_of script s.course client in
-    let m = mapped (λ k. after_step step (at_clock s.clock k)) (performed script client s.clock s.course) t e in
+    let m = mapped (λ k. after_step script step (at_clock s.clock k)) (performed script client s.clock s.course) t e in
     subst (λ (u : Serial). load script u.course < load script s.course) m.is
     (subst (λ (n : ℕ). n < load script s.course) (sym (after_load script (at_clock s.clock m.from) step)) (step_falls script s.course m.from client s.clock step h refl m.found))
 
@@ -321,13 +324,19 @@ lt_true n m less = grind (arith, nat_tests)
 passed_true : (positions : List ℕ) (client step number : ℕ) → step < number → next_at positions client ≡ number → is_passed positions client step ≡ true
 passed_true positions client step number less e = subst (λ (n : ℕ). nat_lt step n ≡ true) (sym e) (lt_true step number less)
 
+-- a submit before the next step was performed
+pub submitted_before : (script : Script) (k : Course) (client earlier : ℕ) → IsLawfulSoFar script k → earlier < next_at k.positions client → is_submit_at (step_at script client earlier) ≡ true
+    → is_vacant (word_of k.tasks client earlier) ≡ false
+submitted_before script k client earlier h less submit =
+    let passed = passed_true k.positions client earlier (next_at k.positions client) less refl in
+    not_true _ (h.performed.cells client earlier ∙ (λ i. passed i && submit i))
+
 -- what a next step awaits was submitted
 pub passed_before : (script : Script) (k : Course) (client earlier : ℕ) → IsScript script → IsLawfulSoFar script k
     → step_at script client (next_at k.positions client) ≡ Some (Await earlier goal.Task) → is_vacant (word_of k.tasks client earlier) ≡ false
 passed_before script k client earlier valid h e =
     let named = awaits_submit script client (next_at k.positions client) earlier valid e in
-    let passed = passed_true k.positions client earlier (next_at k.positions client) named.0 refl in
-    not_true _ (h.performed.cells client earlier ∙ (λ i. passed i && named.1 i))
+    submitted_before script k client earlier h named.0 named.1
 
 -- a client that can't act is at its end
 await_acts : (script : Script) (s : Serial) (client earlier : ℕ) → IsScript script → IsLawfulSoFar script s.course → s.course.waiting ≡ []
@@ -337,20 +346,34 @@ await_acts script s client earlier valid h empty e =
     let there = passed_before script k client earlier valid h e in
     over_told (word_of k.tasks client earlier) (over_at_rest script k client earlier (word_of k.tasks client earlier) refl h empty there)
 
+await_ack_acts : (script : Script) (s : Serial) (client earlier : ℕ) → IsScript script → IsLawfulSoFar script s.course → s.course.waiting ≡ []
+    → AllByRecursion (λ (n : NodeCourse). n.left ≡ []) s.course.nodes → step_at script client (next_at s.course.positions client) ≡ Some (Await earlier goal.Ack)
+    → (batch : ℕ) × (ack_told (ack_end_in script s.course client earlier) (word_of s.course.tasks client earlier) ≡ Some batch)
+await_ack_acts script s client earlier valid h empty left e =
+    let k = s.course in
+    let named = awaits_asking script client (next_at k.positions client) earlier valid e in
+    let there = submitted_before script k client earlier h named.less (asks_submit (step_at script client earlier) named.asked named.asks) in
+    let w = word_of k.tasks client earlier in
+    ack_acts script k client earlier (moment_at k.ats client earlier) (task_timeout_of (step_at script client earlier)) named.asked w h.lapsed left named.asks (h.ended.words client earlier)
+    (over_at_rest script k client earlier w refl h empty there)
+
 at_end : (script : Script) (s : Serial) (client : ℕ) (found : Option Step) → IsScript script → IsBuilt script → IsLawfulSoFar script s.course → s.course.waiting ≡ []
-    → next_step_of script s.course client ≡ found → option_map (λ k. after_step found (at_clock s.clock k)) (step_by s.course client s.clock found) ≡ None → found ≡ None
-at_end script s client None valid built h empty e none = refl
-at_end script s client (Some (Submit queue task timeout ack)) valid built h empty e none = absurd (no_some _ (sym none))
-at_end script s client (Some (Await earlier goal.Task)) valid built h empty e none =
+    → AllByRecursion (λ (n : NodeCourse). n.left ≡ []) s.course.nodes → next_step_of script s.course client ≡ found
+    → option_map (λ k. after_step script found (at_clock s.clock k)) (step_by script s.course client s.clock found) ≡ None → found ≡ None
+at_end script s client None valid built h empty left e none = refl
+at_end script s client (Some (Submit queue task timeout ack)) valid built h empty left e none = absurd (no_some _ (sym none))
+at_end script s client (Some (Await earlier goal.Task)) valid built h empty left e none =
     let told = await_acts script s client earlier valid h empty e in
-    absurd (no_some _ (sym (ap (λ (b : Option ℕ). option_map (λ k. after_step (Some (Await earlier goal.Task)) (at_clock s.clock k)) (awaited_by s.course client b)) (sym told.1) ∙ none)))
-at_end script s client (Some (Await earlier goal.Ack)) valid built h empty e none = absurd (true≢false (sym (built_at script client (next_at s.course.positions client) (Await earlier goal.Ack) built e)))
-at_end script s client (Some (Await earlier goal.Watch)) valid built h empty e none = absurd (true≢false (sym (built_at script client (next_at s.course.positions client) (Await earlier goal.Watch) built e)))
-at_end script s client (Some (Watch a b c d)) valid built h empty e none = absurd (true≢false (sym (built_at script client (next_at s.course.positions client) (Watch a b c d) built e)))
-at_end script s client (Some (Next a b c d)) valid built h empty e none = absurd (true≢false (sym (built_at script client (next_at s.course.positions client) (Next a b c d) built e)))
-at_end script s client (Some (Read a b)) valid built h empty e none = absurd (true≢false (sym (built_at script client (next_at s.course.positions client) (Read a b) built e)))
-at_end script s client (Some (Sleep ms)) valid built h empty e none = absurd (no_some _ (sym none))
-at_end script s client (Some Close) valid built h empty e none = absurd (true≢false (sym (built_at script client (next_at s.course.positions client) Close built e)))
+    absurd (no_some _ (sym (ap (λ (b : Option ℕ). option_map (λ k. after_step script (Some (Await earlier goal.Task)) (at_clock s.clock k)) (awaited_by s.course client b)) (sym told.1) ∙ none)))
+at_end script s client (Some (Await earlier goal.Ack)) valid built h empty left e none =
+    let told = await_ack_acts script s client earlier valid h empty left e in
+    absurd (no_some _ (sym (ap (λ (b : Option ℕ). option_map (λ k. after_step script (Some (Await earlier goal.Ack)) (at_clock s.clock k)) (awaited_by s.course client b)) (sym told.1) ∙ none)))
+at_end script s client (Some (Await earlier goal.Watch)) valid built h empty left e none = absurd (true≢false (sym (built_at script client (next_at s.course.positions client) (Await earlier goal.Watch) built e)))
+at_end script s client (Some (Watch a b c d)) valid built h empty left e none = absurd (true≢false (sym (built_at script client (next_at s.course.positions client) (Watch a b c d) built e)))
+at_end script s client (Some (Next a b c d)) valid built h empty left e none = absurd (true≢false (sym (built_at script client (next_at s.course.positions client) (Next a b c d) built e)))
+at_end script s client (Some (Read a b)) valid built h empty left e none = absurd (true≢false (sym (built_at script client (next_at s.course.positions client) (Read a b) built e)))
+at_end script s client (Some (Sleep ms)) valid built h empty left e none = absurd (no_some _ (sym none))
+at_end script s client (Some Close) valid built h empty left e none = absurd (true≢false (sym (built_at script client (next_at s.course.positions client) Close built e)))
 
 -- of a client that there is, the turn is among those of a round
 same_sum : (n : ℕ) → n ≡ n + 0
@@ -368,10 +391,11 @@ turn_there P first zero (one ∷ more) steps e all = subst (λ (n : ℕ). P (tur
 turn_there P first (suc client) (one ∷ more) steps e all = subst (λ (n : ℕ). P (turn.Client n)) (next_sum first client) (turn_there P (first + 1) client more steps e all.1)
 
 rests_by : (script : Script) (s : Serial) (client : ℕ) (found : Option (List Step)) → slice_get script.clients client ≡ found → IsScript script → IsBuilt script → IsLawfulSoFar script s.course
-    → s.course.waiting ≡ [] → AllByRecursion (λ t. turn_of script t s ≡ None) (client_turns 0 script.clients) → next_step_of script s.course client ≡ None
-rests_by script s client None e valid built h empty all = ap (option_and_then (λ steps. slice_get steps (next_at s.course.positions client))) e
-rests_by script s client (Some steps) e valid built h empty all =
-    at_end script s client (next_step_of script s.course client) valid built h empty refl
+    → s.course.waiting ≡ [] → AllByRecursion (λ (n : NodeCourse). n.left ≡ []) s.course.nodes → AllByRecursion (λ t. turn_of script t s ≡ None) (client_turns 0 script.clients)
+    → next_step_of script s.course client ≡ None
+rests_by script s client None e valid built h empty left all = ap (option_and_then (λ steps. slice_get steps (next_at s.course.positions client))) e
+rests_by script s client (Some steps) e valid built h empty left all =
+    at_end script s client (next_step_of script s.course client) valid built h empty left refl
     (subst (λ (n : ℕ). turn_of script (turn.Client n) s ≡ None) (zero_sum client) (turn_there (λ t. turn_of script t s ≡ None) 0 client script.clients steps e all))
 
 -- a node that can't act has nothing left
@@ -403,10 +427,11 @@ is_at_rest script s t valid built h e =
     let master = all_later (λ t. turn_of script t s ≡ None) turns others none in
     let empty = none_next script s s.course.waiting (next_queue (priorities_of script.queues) s.course.waiting) refl refl master.0 in
     let clients = all_first (λ t. turn_of script t s ≡ None) turns others none in
+    let left = nodes_rest script s valid h.lawful master.1 in
     subst (λ (u : Serial). IsAtRest script u.course) (sym (round_still script s t valid h e)) (record {
       empty = empty;
-      ended = λ client. rests_by script s client (slice_get script.clients client) refl valid built h.lawful empty clients;
-      applied = nodes_rest script s valid h.lawful master.1;
+      ended = λ client. rests_by script s client (slice_get script.clients client) refl valid built h.lawful empty left clients;
+      applied = left;
     })
 
 -- ---- how many rounds are enough

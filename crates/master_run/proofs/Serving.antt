@@ -24,7 +24,7 @@ use Rattle.session_law.proofs.Growth.{free_from, number_kept, number_new, outcom
 use Rattle.task_words.specs.declared.words.Word.{Word}
 use Rattle.task_words.specs.declared.words.Word.TheVariants as word
 use Rattle.task_words.specs.Words.{TaskTable, acquired_by, size_of, taken_by, with_size, with_word, word_at}
-use Rattle.task_words.proofs.Cells.{same_or_not}
+use Rattle.plain_data.proofs.Cells.{same_or_not}
 use Rattle.master_intake.specs.declared.entries.Waiting.{Waiting}
 use Rattle.master_intake.specs.declared.entries.WaitingTask.{WaitingTask}
 use Rattle.master_intake.specs.Waitings.{entries_of, is_in, left_by, taken_from}
@@ -34,6 +34,7 @@ use Rattle.master_run.specs.Endings.{code_of, end_by, outcome_by}
 use Rattle.master_run.specs.Nodes.{handed_each}
 use Rattle.master_run.specs.Servings.{Gathered, ended_all, gathered, gathered_with, got_from, has_some_in, ran, served}
 use Rattle.master_run.specs.SoFar.{HasSeenSoFar, IsEndedSoFar, IsLawfulSoFar, IsOrderedSoFar, IsPassed, IsPassedSoFar, IsPerformed, IsSeenSoFar, IsTold, IsWaiting, IsWordLawful, is_entry_of, is_over, is_passed, is_submit_at, is_vacant, may_wait, queued_at}
+use Rattle.master_run.proofs.AckKeeping.{lapsed_push}
 use Rattle.master_run.proofs.Alls.{all_append, all_both, all_by, all_filter}
 use Rattle.master_run.proofs.Ending.{ends_count}
 use Rattle.master_run.proofs.EndingAll.{AreBatchs, AreOnce, IsAmongEnds, IsNoMore, ended_among, ended_other}
@@ -562,6 +563,7 @@ none_served script k number h none =
       };
       told = told_served script k number now h.told same;
       recorded = h.recorded;
+      lapsed = h.lapsed;
     }
 
 -- ---- the event
@@ -602,6 +604,7 @@ some_served script k number queue at commit valid h e some =
       ended = ended_served script k number queue at commit after valid h e has;
       told = told_served script k number after h.told same;
       recorded = recorded_served script k.book number queue entries at commit k.nodes valid h.ordered.kept e h.recorded;
+      lapsed = lapsed_push script k.book.batches batch k.lapses h.lapsed;
     })
 
 abbrev ran_with : Script → Course → ℕ → Chronicle → List Entry → Course

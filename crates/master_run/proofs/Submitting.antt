@@ -18,9 +18,9 @@ use Rattle.session_law.specs.Histories.{IsApart, Queued, queued_of, step_at}
 use Rattle.session_law.specs.ScriptSteps.{is_at}
 use Rattle.task_words.specs.declared.words.Word.{Word}
 use Rattle.task_words.specs.declared.words.Word.TheVariants as word
-use Rattle.task_words.specs.Cells.{IsInside, with_cell}
+use Rattle.plain_data.specs.Cells.{IsInside, with_cell}
 use Rattle.task_words.specs.Words.{IsWithin, TaskTable, size_of, with_size, with_word}
-use Rattle.task_words.proofs.Cells.{cell_at-with_cell_other, cell_at-with_cell_same, same_or_not}
+use Rattle.plain_data.proofs.Cells.{cell_at-with_cell_other, cell_at-with_cell_same, same_or_not}
 use Rattle.master_intake.specs.declared.entries.Waiting.{Waiting}
 use Rattle.master_intake.specs.Waitings.{is_in, taken_from}
 use Rattle.master_run.specs.Courses.{Course, id_at, moment_at, next_at, seen_at, word_of}
@@ -278,4 +278,5 @@ submit_keeps script k client at queue task timeout ack valid h step =
       ended = ended_submit script k client at queue task timeout h.ended is;
       told = told_submit script k client at queue task timeout h.told is;
       recorded = h.recorded;
+      lapsed = h.lapsed;
     }

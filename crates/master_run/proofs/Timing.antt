@@ -21,7 +21,9 @@ use Rattle.master_intake.specs.declared.entries.Waiting.{Waiting}
 use Rattle.master_run.specs.Courses.{Course, id_at, moment_at, word_of}
 use Rattle.master_run.specs.Endings.{deadline_of}
 use Rattle.master_run.specs.Events.{all_expired, expired}
+use Rattle.master_run.specs.Serials.{timed_at}
 use Rattle.master_run.specs.SoFar.{AreApartFrom, HasSeenSoFar, IsLawfulSoFar, IsStillQueued, IsTimed, IsWordLawful, is_entry_of, is_over, is_vacant, may_wait, queued_at}
+use Rattle.master_run.proofs.AckKeeping.{lapse_keeps}
 use Rattle.master_run.proofs.Alls.{all_by}
 use Rattle.master_run.proofs.Expiring.{expired_by, expired_kept}
 use Rattle.master_run.proofs.Keeping.{both_first}
@@ -124,6 +126,7 @@ expire_keeps script k id reading valid h few =
         stopped = same.stopped ∙ h.told.stopped;
       };
       recorded = h.recorded;
+      lapsed = h.lapsed;
     }
 
 -- each of what waits
@@ -132,3 +135,8 @@ pub all_expire_keep : (script : Script) (k : Course) (all : List Waiting) (readi
 all_expire_keep script k [] reading valid h few = h
 all_expire_keep script k (w ∷ more) reading valid h few =
     all_expire_keep script (record k { tasks = expired w.entry.id reading k.tasks }) more reading valid (expire_keeps script k w.entry.id reading valid h few) few
+
+-- and then each open acknowledgement
+pub timed_keeps : (script : Script) (k : Course) (reading : ℕ) → IsScript script → IsLawfulSoFar script k → reading < 2 ^ 43 - 1 → IsLawfulSoFar script (timed_at script reading k)
+timed_keeps script k reading valid h few =
+    lapse_keeps script (record k { tasks = all_expired reading k.waiting k.tasks }) reading (all_expire_keep script k k.waiting reading valid h few)

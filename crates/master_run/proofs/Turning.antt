@@ -25,13 +25,14 @@ use Rattle.master_run.specs.Replays.{IsSound, serial_of}
 use Rattle.master_run.specs.Serials.{Serial, after_step, after_turn, at_clock, client_turn, master_turn, node_number, node_turn}
 use Rattle.master_run.specs.Servings.{has_some_in, served}
 use Rattle.master_run.specs.SoFar.{IsLawfulSoFar}
-use Rattle.master_run.specs.Steps.{awaited_by, batch_told, next_step_of, performed, step_by}
+use Rattle.master_run.specs.Steps.{ack_end_in, ack_told, awaited_by, batch_told, next_step_of, performed, step_by}
+use Rattle.master_run.proofs.AckKeeping.{lapse_keeps}
 use Rattle.master_run.proofs.Keeping.{no_some, or_left, or_right, some_same}
-use Rattle.master_run.proofs.Performing.{await_keeps, sleep_keeps}
+use Rattle.master_run.proofs.Performing.{await_ack_keeps, await_keeps, sleep_keeps}
 use Rattle.master_run.proofs.Recording.{apply_keeps}
 use Rattle.master_run.proofs.Serving.{serve_keeps}
 use Rattle.master_run.proofs.Submitting.{submit_keeps}
-use Rattle.master_run.proofs.Timing.{all_expire_keep, expire_keeps}
+use Rattle.master_run.proofs.Timing.{expire_keeps, timed_keeps}
 
 -- ---- an event
 
@@ -40,14 +41,21 @@ await_found : (script : Script) (k now : Course) (client earlier : ℕ) (found :
 await_found script k now client earlier None h e told f = absurd (no_some now f)
 await_found script k now client earlier (Some batch) h e told f = subst (IsLawfulSoFar script) (some_same _ now f) (await_keeps script k client earlier batch h e told)
 
+ack_found : (script : Script) (k now : Course) (client earlier : ℕ) (found : Option ℕ) → IsLawfulSoFar script k → step_at script client (next_at k.positions client) ≡ Some (Await earlier goal.Ack)
+    → ack_told (ack_end_in script k client earlier) (word_of k.tasks client earlier) ≡ found → awaited_by k client found ≡ Some now → IsLawfulSoFar script now
+ack_found script k now client earlier None h e told f = absurd (no_some now f)
+ack_found script k now client earlier (Some batch) h e told f =
+    subst (IsLawfulSoFar script) (some_same _ now f) (await_ack_keeps script k client earlier batch (ack_end_in script k client earlier) h e told)
+
 step_keeps : (script : Script) (k now : Course) (client at : ℕ) (found : Option Step) → IsScript script → IsLawfulSoFar script k → step_at script client (next_at k.positions client) ≡ found
-    → step_by k client at found ≡ Some now → IsLawfulSoFar script now
+    → step_by script k client at found ≡ Some now → IsLawfulSoFar script now
 step_keeps script k now client at None valid h e f = absurd (no_some now f)
 step_keeps script k now client at (Some (Submit queue task timeout ack)) valid h e f =
     subst (IsLawfulSoFar script) (some_same _ now f) (submit_keeps script k client at queue task timeout ack valid h e)
 step_keeps script k now client at (Some (Await earlier goal.Task)) valid h e f =
     await_found script k now client earlier (batch_told (word_of k.tasks client earlier)) h e refl f
-step_keeps script k now client at (Some (Await earlier goal.Ack)) valid h e f = absurd (no_some now f)
+step_keeps script k now client at (Some (Await earlier goal.Ack)) valid h e f =
+    ack_found script k now client earlier (ack_told (ack_end_in script k client earlier) (word_of k.tasks client earlier)) h e refl f
 step_keeps script k now client at (Some (Await earlier goal.Watch)) valid h e f = absurd (no_some now f)
 step_keeps script k now client at (Some (Watch _ _ _ _)) valid h e f = absurd (no_some now f)
 step_keeps script k now client at (Some (Next _ _ _ _)) valid h e f = absurd (no_some now f)
@@ -65,6 +73,7 @@ event_keeps script k now (Event.Perform client at) valid h may f = step_keeps sc
 event_keeps script k now (Event.Serve queue at commit) valid h may f = serve_found script k now queue at commit (has_some_in queue k.waiting) refl valid h f
 event_keeps script k now (Event.Apply node) valid h may f = apply_keeps script k now node h f
 event_keeps script k now (Event.Expire id reading) valid h may f = subst (IsLawfulSoFar script) (some_same _ now f) (expire_keeps script k id reading valid h may)
+event_keeps script k now (Event.ExpireAcks reading) valid h may f = subst (IsLawfulSoFar script) (some_same _ now f) (lapse_keeps script k reading h)
 
 pub events_keep_lawful : EventsKeepLawful
 events_keep_lawful script k now e valid h may f = event_keeps script k now e valid h may f
@@ -106,7 +115,7 @@ pub mapped : {A B : Type 0} (f : A → B) (o : Option A) (b : B) → option_map 
 mapped f None b e = absurd (no_some b e)
 mapped f (Some a) b e = record { from = a; found = refl; is = some_same (f a) b e }
 
-on_step : (script : Script) (s : Serial) (step : Option Step) → IsScript script → IsOnTime script s → IsOnTime script (after_step step s)
+on_step : (script : Script) (s : Serial) (step : Option Step) → IsScript script → IsOnTime script s → IsOnTime script (after_step script step s)
 on_step script s None valid h = h
 on_step script s (Some (Submit _ _ _ _)) valid h = h
 on_step script s (Some (Await _ _)) valid h = h
@@ -115,12 +124,12 @@ on_step script s (Some (Next _ _ _ _)) valid h = h
 on_step script s (Some (Read _ _)) valid h = h
 on_step script s (Some (Sleep ms)) valid h =
     let most : due s.clock ms ≤ 2 ^ 43 - 2 = omega arith in
-    record { lawful = all_expire_keep script s.course s.course.waiting (due s.clock ms) valid h.lawful (omega arith); clock = most }
+    record { lawful = timed_keeps script s.course (due s.clock ms) valid h.lawful (omega arith); clock = most }
 on_step script s (Some Close) valid h = h
 
 pub client_keeps : (script : Script) (client : ℕ) (s t : Serial) → IsScript script → IsOnTime script s → client_turn script client s ≡ Some t → IsOnTime script t
 client_keeps script client s t valid h e =
-    let m = mapped (λ k. after_step (next_step_of script s.course client) (at_clock s.clock k)) (performed script client s.clock s.course) t e in
+    let m = mapped (λ k. after_step script (next_step_of script s.course client) (at_clock s.clock k)) (performed script client s.clock s.course) t e in
     subst (IsOnTime script) m.is (on_step script (at_clock s.clock m.from) (next_step_of script s.course client) valid
     (record { lawful = event_keeps script s.course m.from (Event.Perform client s.clock) valid h.lawful tt m.found; clock = h.clock }))
 

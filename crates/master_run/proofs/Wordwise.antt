@@ -6,9 +6,9 @@ use Rattle.std.specs.Cmp.{unsigned_Decides}
 use Rattle.session_law.specs.ScriptSteps.{is_at}
 use Rattle.task_words.specs.declared.words.Word.{Word}
 use Rattle.task_words.specs.declared.words.Word.TheVariants as word
-use Rattle.task_words.specs.Cells.{IsInside, cell_at, row_of}
+use Rattle.plain_data.specs.Cells.{IsInside, cell_at, row_of}
 use Rattle.task_words.specs.Words.{IsWithin, TaskTable, with_word}
-use Rattle.task_words.proofs.Cells.{cell_at-with_cell_other, cell_at-with_cell_same}
+use Rattle.plain_data.proofs.Cells.{cell_at-with_cell_other, cell_at-with_cell_same}
 use Rattle.master_run.specs.Courses.{id_at, word_of}
 use Rattle.master_run.specs.SoFar.{is_vacant}
 use Rattle.master_run.proofs.Keeping.{both_first, both_second, false_from, same_number}

@@ -1,9 +1,9 @@
 -- The course of a session: all that the master, its words, its clients and its nodes know between two events.
-use Rattle.std.specs.Prelude.{ℕ, List, [], length, map, replicate, slice_index_or}
+use Rattle.std.specs.Prelude.{ℕ, List, [], length, map, replicate, Option, None, slice_index_or}
 use Rattle.scripts.specs.declared.whole_script.Script.{Script}
 use Rattle.scripts.specs.declared.task_id.TaskId.{TaskId}
 use Rattle.task_words.specs.declared.words.Word.{Word}
-use Rattle.task_words.specs.Cells.{cell_at}
+use Rattle.plain_data.specs.Cells.{cell_at}
 use Rattle.task_words.specs.Words.{TaskTable, vacant_table, word_at}
 use Rattle.master_intake.specs.declared.entries.Waiting.{Waiting}
 use Rattle.master_run.specs.Books.{Chronicle, first_book}
@@ -24,6 +24,8 @@ pub record Course : Type 0 where
   pub awaited : List ℕ
   -- each node of the script, in its order
   pub nodes : List NodeCourse
+  -- by client and step, the reading at which an acknowledgement timed out, if it did so after its commit
+  pub lapses : ℕ → ℕ → Option ℕ
 
 -- ---- at first
 
@@ -43,6 +45,7 @@ first_course script = record {
   positions = zeros_of script;
   awaited = zeros_of script;
   nodes = fresh_nodes script;
+  lapses = λ client step. None;
 }
 
 -- ---- of a client and a step

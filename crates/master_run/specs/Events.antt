@@ -6,6 +6,7 @@ use Rattle.scripts.specs.declared.whole_script.Script.{Script}
 use Rattle.scripts.specs.declared.task_id.TaskId.{TaskId}
 use Rattle.task_words.specs.Words.{IsWithin, TaskTable, expiry_of, timed_by, word_at}
 use Rattle.master_intake.specs.declared.entries.Waiting.{Waiting}
+use Rattle.master_run.specs.AckCourses.{acked_in, lapse_after}
 use Rattle.master_run.specs.Courses.{Course}
 use Rattle.master_run.specs.Nodes.{applied_node}
 use Rattle.master_run.specs.Servings.{has_some_in, served}
@@ -20,6 +21,8 @@ pub data Event : Type 0 where
   Apply : (node : ℕ) → Event
   -- a task times out at a reading, where it waits and its deadline is at most that
   Expire : (id : TaskId) (reading : ℕ) → Event
+  -- each acknowledgement times out at a reading, where it is open and its deadline is at most that
+  ExpireAcks : (reading : ℕ) → Event
 
 -- a task that waits times out where its deadline is at most a reading
 abbrev pub expired : TaskId → ℕ → TaskTable → TaskTable
@@ -35,12 +38,18 @@ abbrev pub applied : Script → ℕ → Course → Option Course
 applied script number k =
     option_map (λ has. record k { nodes = slice_set k.nodes number has }) (applied_node script (slice_get script.nodes number) (slice_get k.nodes number))
 
+-- each acknowledgement times out at a reading, where it is open and its deadline is at most that
+abbrev pub all_lapsed : Script → ℕ → Course → ℕ → ℕ → Option ℕ
+all_lapsed script reading k client step =
+    lapse_after script k.book.batches k.nodes reading (k.lapses client step) (acked_in script k.book.batches client step)
+
 -- what an event makes of a course; none where it can't act
 abbrev pub event : Script → Event → Course → Option Course
 event script (Perform client at) k = performed script client at k
 event script (Serve queue at commit) k = if has_some_in queue k.waiting then Some (served script queue at commit k) else None
 event script (Apply node) k = applied script node k
 event script (Expire id reading) k = Some (record k { tasks = expired id reading k.tasks })
+event script (ExpireAcks reading) k = Some (record k { lapses = all_lapsed script reading k })
 
 -- ---- what the code of this asks
 

@@ -17,6 +17,7 @@ IsReadable (Event.Perform client at) = Unit {0}
 IsReadable (Event.Serve queue at commit) = Unit {0}
 IsReadable (Event.Apply node) = Unit {0}
 IsReadable (Event.Expire id reading) = reading < 2 ^ 43 - 1
+IsReadable (Event.ExpireAcks reading) = Unit {0}
 
 -- whichever event it is, whatever its readings are
 abbrev pub EventsKeepLawful : Type 0

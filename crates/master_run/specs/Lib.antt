@@ -1,3 +1,7 @@
+pub mod AckBooks
+pub mod AckCounts
+pub mod AckCourses
+pub mod AckTellings
 pub mod Appliers
 pub mod Books
 pub mod Conclusions

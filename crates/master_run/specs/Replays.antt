@@ -1,26 +1,36 @@
 -- How far a replay has come, as the serial rule sees it; and what its code asks and keeps.
-use Rattle.std.specs.Prelude.{◌≡◌, ◌≢◌, ◌<◌, ◌≤◌, ◌-◌, ◌^◌, ℕ, true, List, [], length, Option}
+use Rattle.std.specs.Prelude.{◌≡◌, ◌≢◌, ◌<◌, ◌≤◌, ◌-◌, ◌^◌, ℕ, Bool, max, true, List, [], length, Option, Some, None, slice_get, slice_set, if◌then◌else◌}
 use Rattle.std.specs.List.{AllByRecursion}
 use Rattle.std.specs.Option.{option_map}
+use Rattle.node_apply.specs.Applying.{Node}
 use Rattle.node_apply.specs.NodeLinks.{NodeLinkView}
 use Rattle.publication.specs.LinkMeanings.{LinkMeaning}
 use Rattle.scripts.specs.declared.whole_script.Script.{Script}
 use Rattle.executors.specs.declared.tasks.Task.{Task}
 use Rattle.session_law.specs.DueTimes.{due}
+use Rattle.task_words.specs.declared.answers.TaskPoll.{TaskPoll}
+use Rattle.task_words.specs.declared.answers.TaskPoll.TheVariants as poll
+use Rattle.task_words.specs.declared.end_codes.EndCode.{EndCode}
+use Rattle.task_words.specs.declared.end_codes.Outcome.{Outcome}
+use Rattle.task_words.specs.declared.end_codes.Outcome.TheVariants as outcome
 use Rattle.task_words.specs.declared.words.Word.TheVariants as word
-use Rattle.task_words.specs.Cells.{IsInside}
+use Rattle.plain_data.specs.Cells.{IsInside}
 use Rattle.task_words.specs.Words.{IsWithin, size_of}
 use Rattle.master_intake.specs.Waitings.{priorities_of}
 use Rattle.master_run.specs.declared.replays.Replay.{Replay}
+use Rattle.master_run.specs.declared.acknowledgements.Times.{Times}
+use Rattle.master_run.specs.AckBooks.{counted_all, lapses_of, settled, timed_all}
+use Rattle.master_run.specs.AckCounts.{AreCounted}
 use Rattle.master_run.specs.Appliers.{AreNodesOf, courses_of}
-use Rattle.master_run.specs.Courses.{Course, id_at, next_at, word_of}
+use Rattle.master_run.specs.Books.{last_entries}
+use Rattle.master_run.specs.Courses.{Course, id_at, next_at, seen_at, word_of}
 use Rattle.master_run.specs.Events.{CanExpire, all_expired}
 use Rattle.master_run.specs.Linked.{IsLinked}
 use Rattle.master_run.specs.Passing.{ArePassed, meanings_of}
 use Rattle.master_run.specs.Sendings.{AreLinksOf, HaveRoom}
 use Rattle.master_run.specs.Serials.{Serial, at_clock}
 use Rattle.master_run.specs.SoFar.{IsLawfulSoFar}
-use Rattle.master_run.specs.Steps.{awaited_by, batch_told, moved_on, submitted_by}
+use Rattle.master_run.specs.Steps.{ack_end_in, ack_told, awaited_by, batch_told, moved_on, submitted_by}
 
 abbrev pub course_of : Replay → Course
 course_of replay = record {
@@ -31,6 +41,7 @@ course_of replay = record {
   positions = replay.positions;
   awaited = replay.awaited;
   nodes = courses_of replay.nodes.items;
+  lapses = lapses_of replay.acks;
 }
 
 abbrev pub serial_of : Replay → Serial
@@ -42,6 +53,10 @@ pub record IsSound (script : Script) (replay : Replay) : Type 0 where
   pub priorities : replay.waiting.priorities ≡ priorities_of script.queues
   pub nodes : AreNodesOf script replay.nodes.items
   pub clock : replay.clock ≤ 2 ^ 43 - 2
+
+-- its acknowledgements are as far as the course tells
+abbrev pub HasCounted : Script → Replay → Type 0
+HasCounted script replay = AreCounted script replay.book.batches (courses_of replay.nodes.items) replay.acks
 
 -- its links go to its nodes, and have passed on all that these were handed
 pub record AreEnds (script : Script) (replay : Replay) (links : List NodeLinkView) : Type 0 where
@@ -93,6 +108,31 @@ pub record CanAwait (replay : Replay) (client earlier : ℕ) : Type 0 where
 abbrev pub awaited_in : Replay → ℕ → ℕ → Option Serial
 awaited_in replay client earlier = option_map (at_clock replay.clock) (awaited_by (course_of replay) client (batch_told (word_of replay.tasks client earlier)))
 
+-- a client has seen the end of a task of a batch, and is at its next step
+abbrev pub seen_in : Replay → ℕ → ℕ → Replay
+seen_in replay client batch = record replay {
+  positions = moved_on replay.positions client;
+  awaited = slice_set replay.awaited client (max (seen_at replay.awaited client) batch);
+}
+
+-- so it is of an await for an acknowledgement
+abbrev pub ack_awaited_in : Script → Replay → ℕ → ℕ → Option Serial
+ack_awaited_in script replay client earlier =
+    option_map (at_clock replay.clock) (awaited_by (course_of replay) client (ack_told (ack_end_in script (course_of replay) client earlier) (word_of replay.tasks client earlier)))
+
+-- what it is told of the task's batch, where the acknowledgement is open or isn't
+abbrev pub outcome_polled : Bool → ℕ → Outcome → Option ℕ
+outcome_polled open_still batch (outcome.Ok version) = if open_still then None else Some batch
+outcome_polled open_still batch _ = Some batch
+
+abbrev pub code_polled : Bool → EndCode → Option ℕ
+code_polled open_still code = outcome_polled open_still code.batch code.outcome
+
+abbrev pub poll_told : Bool → TaskPoll → Option ℕ
+poll_told open_still poll.NotYet = None
+poll_told open_still (poll.Timed reading) = Some 0
+poll_told open_still (poll.Ended code) = code_polled open_still code
+
 -- it may sleep
 pub record CanSleep (replay : Replay) (client ms : ℕ) : Type 0 where
   pub steps : CanStep replay client
@@ -103,9 +143,31 @@ slept_in replay client ms = record replay {
   tasks = all_expired (due replay.clock ms) replay.waiting.waiting replay.tasks;
   positions = moved_on replay.positions client;
   clock = due replay.clock ms;
+  acks = timed_all (due replay.clock ms) replay.acks;
 }
 
+-- ---- a node
+
+-- the version that a node of a number has applied
+abbrev pub version_of : Option Node → ℕ
+version_of None = 0
+version_of (Some node) = node.state.version
+
+-- it answers the acknowledgements of that version
+abbrev pub answered_in : Replay → ℕ → Replay
+answered_in replay number = record replay { acks = settled number (version_of (slice_get replay.nodes.items number)) replay.acks }
+
 -- ---- a batch
+
+-- when the last batch was taken and committed: the clock stands still meanwhile
+abbrev pub times_of : Replay → Times
+times_of replay = record { at = replay.clock; commit = replay.clock }
+
+-- the acknowledgements of the last batch begin to count
+abbrev pub counted_in : Script → Replay → Replay
+counted_in script replay = record replay {
+  acks = counted_all script replay.book.world.state (times_of replay) (last_entries replay.book.batches) replay.book.ends replay.acks;
+}
 
 -- over its links, of which none fails, a batch is the one that the script asks for
 pub record IsOverLinks (script : Script) (replay : Replay) (links : List LinkMeaning) : Type 0 where

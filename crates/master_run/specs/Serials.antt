@@ -13,7 +13,7 @@ use Rattle.session_law.specs.declared.sessions.Session.{Session}
 use Rattle.session_law.specs.DueTimes.{due}
 use Rattle.master_intake.specs.Waitings.{next_queue, priorities_of}
 use Rattle.master_run.specs.Courses.{Course, first_course}
-use Rattle.master_run.specs.Events.{Event, all_expired, event}
+use Rattle.master_run.specs.Events.{Event, all_expired, all_lapsed, event}
 use Rattle.master_run.specs.Nodes.{left_in}
 use Rattle.master_run.specs.Sessions.{session_of}
 use Rattle.master_run.specs.Steps.{next_step_of}
@@ -26,14 +26,21 @@ pub record Serial : Type 0 where
 
 -- ---- time
 
--- the clock has moved: each task that waits times out whose deadline is there
-abbrev pub moved : Serial → Serial
-moved s = record s { course = record s.course { tasks = all_expired s.clock s.course.waiting s.course.tasks } }
+-- each task that waits times out at a reading whose deadline is there, and then each open acknowledgement
+abbrev pub timed_at : Script → ℕ → Course → Course
+timed_at script reading k = record k {
+  tasks = all_expired reading k.waiting k.tasks;
+  lapses = all_lapsed script reading k;
+}
+
+-- the clock has moved
+abbrev pub moved : Script → Serial → Serial
+moved script s = record s { course = timed_at script s.clock s.course }
 
 -- a sleep adds its milliseconds to the clock, which stops at its last moment; no other step moves it
-abbrev pub after_step : Option Step → Serial → Serial
-after_step (Some (Sleep ms)) s = moved (record s { clock = due s.clock ms })
-after_step _ s = s
+abbrev pub after_step : Script → Option Step → Serial → Serial
+after_step script (Some (Sleep ms)) s = moved script (record s { clock = due s.clock ms })
+after_step script _ s = s
 
 -- ---- turns
 
@@ -43,7 +50,7 @@ at_clock clock k = record { course = k; clock = clock }
 -- a client performs its next step at the moment of the clock
 abbrev pub client_turn : Script → ℕ → Serial → Option Serial
 client_turn script client s =
-    option_map (λ k. after_step (next_step_of script s.course client) (at_clock s.clock k)) (event script (Event.Perform client s.clock) s.course)
+    option_map (λ k. after_step script (next_step_of script s.course client) (at_clock s.clock k)) (event script (Event.Perform client s.clock) s.course)
 
 -- the master serves the most urgent queue in which something waits, and of equally urgent ones the one that waits longest
 abbrev pub master_turn : Script → Serial → Option Serial

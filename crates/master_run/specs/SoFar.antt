@@ -12,6 +12,7 @@ use Rattle.scripts.specs.declared.steps.Step.TheVariants.{Submit}
 use Rattle.scripts.specs.Scripts.{is_submit}
 use Rattle.session_law.specs.declared.batches.Batch.{Batch}
 use Rattle.session_law.specs.declared.task_ends.TaskEnd.{TaskEnd}
+use Rattle.session_law.specs.Acknowledgements.{is_over_at}
 use Rattle.session_law.specs.Endings.{IsOver, does_await_task, task_timeout_of}
 use Rattle.session_law.specs.Histories.{IsApart, Queued, queued_of, step_at}
 use Rattle.session_law.specs.NodeRecords.{Commit, applies_from, commits_to, does_fail, first_of, last_of}
@@ -23,6 +24,7 @@ use Rattle.task_words.specs.declared.words.Word.TheVariants as word
 use Rattle.task_words.specs.Words.{TaskTable, size_of}
 use Rattle.master_intake.specs.declared.entries.Waiting.{Waiting}
 use Rattle.master_intake.specs.Waitings.{taken_from}
+use Rattle.master_run.specs.AckCourses.{Acked, acked_in, due_in, is_late}
 use Rattle.master_run.specs.Books.{Chronicle, IsKeptBook}
 use Rattle.master_run.specs.Courses.{Course, lanes_of, moment_at, next_at, seen_at, word_of}
 use Rattle.master_run.specs.Endings.{deadline_of, end_by}
@@ -193,6 +195,18 @@ pub record IsRecordedAt (script : Script) (batches : List Batch) (node : ScriptN
 abbrev pub IsRecordedSoFar : Script → List Batch → List NodeCourse → Type 0
 IsRecordedSoFar script batches nodes = AllZip (IsRecordedAt script batches) script.nodes nodes
 
+-- ---- lapsed: an acknowledgement that timed out after its commit wasn't late there, and its deadline was there
+
+pub record IsLapsed (acked : Option Acked) (reading : ℕ) : Type 0 where
+  pub of : Acked
+  pub found : acked ≡ Some of
+  pub early : is_late of ≡ false
+  pub over : is_over_at reading (due_in of) ≡ true
+
+abbrev pub IsLapsedSoFar : Script → List Batch → (ℕ → ℕ → Option ℕ) → Type 0
+IsLapsedSoFar script batches lapses =
+    (client step reading : ℕ) → lapses client step ≡ Some reading → IsLapsed (acked_in script batches client step) reading
+
 -- ---- all of them
 
 pub record IsLawfulSoFar (script : Script) (k : Course) : Type 0 where
@@ -203,3 +217,4 @@ pub record IsLawfulSoFar (script : Script) (k : Course) : Type 0 where
   pub ended : IsEndedSoFar script k.book.batches k.waiting k.tasks k.ats
   pub told : IsTold script k.waiting k.tasks
   pub recorded : IsRecordedSoFar script k.book.batches k.nodes
+  pub lapsed : IsLapsedSoFar script k.book.batches k.lapses

@@ -2,6 +2,7 @@
 //! one thread.
 #![tactic(auto)]
 
+mod acknowledgements;
 mod applier_lists;
 mod books;
 mod conclusions;

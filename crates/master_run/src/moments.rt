@@ -1,5 +1,5 @@
 ghost use Rattle.std.specs.Prelude.{◌≡◌, IfOk, map, replicate};
-ghost use Rattle.task_words.specs.Cells.{IsInside, with_cell};
+ghost use Rattle.plain_data.specs.Cells.{IsInside, with_cell};
 ghost use Rattle.master_run.specs.Courses.{moment_at};
 
 use plain_data::{Items, OutOfMemory};

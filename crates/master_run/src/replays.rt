@@ -1,12 +1,14 @@
-ghost use Rattle.std.specs.Prelude.{◌≡◌, [], false, IfOk, List, OnOk, map, slice_index_or};
+ghost use Rattle.std.specs.Prelude.{◌≡◌, ◌<◌, [], false, IfOk, IsTrue, List, OnOk, ◌≤◌, length, map, slice_index_or};
 ghost use Rattle.std.specs.Option.{option_copied};
 ghost use Rattle.scripts.specs.Scripts.{IsScript};
 ghost use Rattle.session_law.specs.Histories.{IsOrdered, step_at};
 ghost use Rattle.session_law.specs.Worlds.{first_world};
 ghost use Rattle.node_apply.specs.NodeLinks.{NodeLinkView};
 ghost use Rattle.master_intake.specs.Waitings.{priorities_of};
+ghost use Rattle.ack_words.specs.Acks.{word_at, word_poll};
+ghost use Rattle.master_run.specs.AckBooks.{CanCount, IsAckBook, ack_number, is_in_lane, is_not_yet, new_acks, pruned};
 ghost use Rattle.master_run.specs.Appliers.{AreNodesOf, courses_of};
-ghost use Rattle.master_run.specs.Books.{CanJoinAt, added, last_stepped};
+ghost use Rattle.master_run.specs.Books.{CanJoinAt, added, last_entries, last_stepped};
 ghost use Rattle.master_run.specs.Courses.{first_course, lanes_of, next_at, zeros_of};
 ghost use Rattle.master_run.specs.Linked.{AreUsed};
 ghost use Rattle.master_run.specs.NodeEnds.{links_for, room_for};
@@ -15,16 +17,18 @@ ghost use Rattle.master_run.specs.Passing.{ArePassed, AreTold, meanings_of};
 ghost use Rattle.master_run.specs.Sendings.{AreLinksOf};
 ghost use Rattle.master_run.specs.Serials.{after_turn, at_clock, client_turn, first_serial, follow, master_turn, node_number, node_turn, node_turns, play, round_turns, turn_at, turn_of};
 ghost use Rattle.master_run.specs.Sessions.{session_of};
-ghost use Rattle.master_run.specs.Replays.{AreEnds, CanAwait, CanSleep, CanStep, CanSubmit, IsOverLinks, IsSound, awaited_in, course_of, moved_in, serial_of, slept_in, submitted_in};
+ghost use Rattle.master_run.specs.Replays.{AreEnds, CanAwait, CanSleep, CanStep, CanSubmit, HasCounted, IsOverLinks, IsSound, ack_awaited_in, answered_in, awaited_in, code_polled, counted_in, course_of, moved_in, poll_told, seen_in, serial_of, slept_in, submitted_in, times_of};
 
+use crate::acknowledgements::{Acknowledgements, Times};
 use crate::applier_lists::{apply_at, finish_all};
 use crate::books::{Book, BookEnd};
 use crate::endings::{deadline_of, due};
 use crate::moments::Moments;
 use crate::node_openings::{NodeEnds, open_ends};
 use crate::passing::pass_all;
-use crate::replies::collect;
+use crate::replies::{collect, collect_acks};
 use crate::servings::{end_all, expire_all, gather};
+use ack_words::AckPoll;
 use edge_io::Frozen;
 use executors::Task;
 use master_intake::{Submission, Taken, WaitList};
@@ -34,7 +38,7 @@ use publication::Link;
 use scripts::{Goal, Script, ScriptTurn, Step, TaskId};
 use session_law::{Entry, Session};
 use std::alloc::Global;
-use task_words::{PlainTasks, TaskPoll};
+use task_words::{EndCode, Outcome, PlainTasks, TaskPoll};
 
 /// How far a replay of a script has come.
 #[derive(Drop)]
@@ -52,6 +56,7 @@ pub(crate) struct Replay {
 
     /// The nodes of the script, in its order.
     nodes: Vec<NodeApplier>,
+    acks: Acknowledgements,
 
     /// The clock, in milliseconds.
     clock: u64,
@@ -66,6 +71,7 @@ impl Replay {
         requires { IsScript script.now }
         ensures first { IfOk result (λ made. serial_of made.0 ≡ first_serial script.now) }
         ensures sound { IfOk result (λ made. IsSound script.now made.0) }
+        ensures acks { IfOk result (λ made. HasCounted script.now made.0) }
         ensures links { IfOk result (λ made. made.1.items ≡ links_for (room_for script.now) script.now.nodes (first_world script.now).nodes) }
     {
         let mut replay = Replay::unopened(alloc, script)?;
@@ -79,6 +85,7 @@ impl Replay {
         requires { IsScript script.now }
         ensures first { IfOk result (λ made. serial_of made ≡ at_clock 0 (record (first_course script.now) { nodes = [] })) }
         ensures priorities { IfOk result (λ made. made.waiting.priorities ≡ priorities_of script.now.queues) }
+        ensures acks { IfOk result (λ made. made.acks ≡ new_acks (lanes_of script.now) (length script.now.nodes)) }
     {
         let lanes = lanes_of(alloc, script)?;
         let positions = zeros(alloc, script)?;
@@ -87,6 +94,7 @@ impl Replay {
         let tasks = PlainTasks::create(alloc, lanes.as_slice(), script.queues.len() as u32)?;
         let waiting = WaitList::create(alloc, script.queues.as_slice())?;
         let book = Book::first(alloc, script)?;
+        let acks = Acknowledgements::create(alloc, lanes, script.nodes.len() as u32)?;
         Ok(Replay {
             book,
             waiting,
@@ -95,6 +103,7 @@ impl Replay {
             positions,
             awaited,
             nodes: Vec::new(alloc),
+            acks,
             clock: 0,
         })
     }
@@ -108,9 +117,11 @@ impl Replay {
     ) -> Result<(), OutOfMemory>
         requires script { IsScript script.now }
         requires sound { IsSound script.now self.old }
+        requires acks { HasCounted script.now self.old }
         requires ends { AreEnds script.now self.old links.old }
         ensures turns { OnOk result (serial_of self.new ≡ follow script.now script.now.schedule (serial_of self.old)) }
         ensures sound { OnOk result (IsSound script.now self.new) }
+        ensures acks { OnOk result (HasCounted script.now self.new) }
         ensures ends { OnOk result (AreEnds script.now self.new links.new) }
     {
         for turn in script.schedule.as_slice() {
@@ -129,9 +140,11 @@ impl Replay {
     ) -> Result<bool, OutOfMemory>
         requires script { IsScript script.now }
         requires sound { IsSound script.now self.old }
+        requires acks { HasCounted script.now self.old }
         requires ends { AreEnds script.now self.old links.old }
         ensures round { IfOk result (λ acted. play script.now (round_turns script.now) (false, serial_of self.old) ≡ (acted, serial_of self.new)) }
         ensures sound { OnOk result (IsSound script.now self.new) }
+        ensures acks { OnOk result (HasCounted script.now self.new) }
         ensures ends { OnOk result (AreEnds script.now self.new links.new) }
     {
         let mut acted = false;
@@ -158,9 +171,11 @@ impl Replay {
     ) -> Result<bool, OutOfMemory>
         requires script { IsScript script.now }
         requires sound { IsSound script.now self.old }
+        requires acks { HasCounted script.now self.old }
         requires ends { AreEnds script.now self.old links.old }
         ensures turn { IfOk result (λ acted. after_turn (false, serial_of self.old) (turn_of script.now turn.now (serial_of self.old)) ≡ (acted, serial_of self.new)) }
         ensures sound { OnOk result (IsSound script.now self.new) }
+        ensures acks { OnOk result (HasCounted script.now self.new) }
         ensures ends { OnOk result (AreEnds script.now self.new links.new) }
     {
         match turn {
@@ -181,8 +196,10 @@ impl Replay {
     ) -> Result<bool, OutOfMemory>
         requires script { IsScript script.now }
         requires sound { IsSound script.now self.old }
+        requires acks { HasCounted script.now self.old }
         ensures turn { IfOk result (λ acted. after_turn (false, serial_of self.old) (client_turn script.now client (serial_of self.old)) ≡ (acted, serial_of self.new)) }
         ensures sound { OnOk result (IsSound script.now self.new) }
+        ensures acks { OnOk result (HasCounted script.now self.new) }
         ensures ends { OnOk result ((links : List NodeLinkView) → AreEnds script.now self.old links → AreEnds script.now self.new links) }
     {
         self.perform_next(alloc, script, client)
@@ -197,9 +214,11 @@ impl Replay {
     ) -> Result<bool, OutOfMemory>
         requires script { IsScript script.now }
         requires sound { IsSound script.now self.old }
+        requires acks { HasCounted script.now self.old }
         ensures turn { IfOk result (λ acted. after_turn (false, serial_of self.old) (client_turn script.now client (serial_of self.old)) ≡ (acted, serial_of self.new)) }
         ensures priorities { OnOk result (self.new.waiting.priorities ≡ self.old.waiting.priorities) }
         ensures nodes { OnOk result (self.new.nodes ≡ self.old.nodes) }
+        ensures acks { OnOk result (HasCounted script.now self.new) }
     {
         match step_of(script, client, self.next_of(client)) {
             Some(
@@ -219,6 +238,12 @@ impl Replay {
                     goal: Goal::Task,
                 },
             ) => Ok(self.await_task(client, *step)),
+            Some(
+                Step::Await {
+                    step,
+                    goal: Goal::Ack,
+                },
+            ) => Ok(self.await_ack(script, client, *step)),
             Some(Step::Sleep { ms }) => {
                 self.sleep(client, *ms);
                 Ok(true)
@@ -281,6 +306,8 @@ impl Replay {
         ensures turn { after_turn (false, serial_of self.old) (awaited_in self.old client earlier) ≡ (result, serial_of self.new) }
         ensures waiting { self.new.waiting ≡ self.old.waiting }
         ensures nodes { self.new.nodes ≡ self.old.nodes }
+        ensures book { self.new.book ≡ self.old.book }
+        ensures acks { self.new.acks ≡ self.old.acks }
     {
         let id = TaskId {
             client,
@@ -291,27 +318,118 @@ impl Replay {
             TaskPoll::Ended { code } => code.batch,
             TaskPoll::Timed { .. } => 0,
         };
+        self.has_seen(client, batch);
+        true
+    }
+
+    /// A client's next step awaits the acknowledgement of an earlier one: it is performed where the task has ended, and
+    /// the acknowledgement too if the task's batch published a version.
+    fn await_ack(&mut self, script: &Script, client: u32, earlier: u32) -> bool
+        requires script { IsScript script.now }
+        requires sound { IsSound script.now self.old }
+        requires acks { HasCounted script.now self.old }
+        requires can { CanAwait self.old client earlier }
+        requires inside { IsTrue (is_in_lane self.old.acks.lanes client earlier) }
+        ensures turn { after_turn (false, serial_of self.old) (ack_awaited_in script.now self.old client earlier) ≡ (result, serial_of self.new) }
+        ensures waiting { self.new.waiting ≡ self.old.waiting }
+        ensures nodes { self.new.nodes ≡ self.old.nodes }
+        ensures book { self.new.book ≡ self.old.book }
+        ensures acks { self.new.acks ≡ self.old.acks }
+    {
+        let id = TaskId {
+            client,
+            step: earlier,
+        };
+        let opened = self.is_open(client, earlier);
+        match told_of(self.tasks.poll(client, id), opened) {
+            None => false,
+            Some(batch) => {
+                self.has_seen(client, batch);
+                true
+            }
+        }
+    }
+
+    /// Whether a client isn't told the end of the acknowledgement of its step yet.
+    fn is_open(&self, client: u32, step: u32) -> bool
+        requires { IsTrue (is_in_lane self.now.acks.lanes client step) }
+        ensures { result ≡ is_not_yet (word_poll (word_at self.now.acks.words (ack_number self.now.acks.lanes client step))) }
+    {
+        matches!(self.acks.poll(client, step), AckPoll::NotYet)
+    }
+
+    /// A client has seen the end of a task of a batch, and is at its next step.
+    fn has_seen(&mut self, client: u32, batch: u32)
+        requires steps { CanStep self.old client }
+        requires place { client < length self.old.awaited }
+        ensures { self.new ≡ seen_in self.old client batch }
+    {
         let greatest = number_at(&self.awaited, client).max(batch);
         self.awaited.set(client as usize, greatest);
         self.step_on(client);
-        true
     }
 
     /// A client's next step lets time pass: each task that waits times out whose deadline is there.
     fn sleep(&mut self, client: u32, ms: u64)
         requires { CanSleep self.old client ms }
-        ensures { self.new ≡ slept_in self.old client ms }
+        ensures slept { self.new ≡ slept_in self.old client ms }
+        ensures known { IsAckBook self.old.acks }
     {
         self.step_on(client);
         self.clock = due(self.clock, ms);
         expire_all(&mut self.tasks, self.waiting.waiting(), self.clock);
+        self.acks.expire_all(self.clock);
     }
 
     // ---- the master
 
     /// The master's turn: it takes all that waits in one queue, and what hasn't timed out is a batch. It does nothing where
-    /// nothing waits.
+    /// nothing waits. Acknowledgements of a batch begin to count as it commits.
     fn master_turn(
+        &mut self,
+        alloc: Global,
+        script: &Script,
+        links: &mut [NodeLink],
+    ) -> Result<bool, OutOfMemory>
+        requires script { IsScript script.now }
+        requires sound { IsSound script.now self.old }
+        requires acks { HasCounted script.now self.old }
+        requires ends { AreEnds script.now self.old links.old }
+        ensures turn { IfOk result (λ acted. after_turn (false, serial_of self.old) (master_turn script.now (serial_of self.old)) ≡ (acted, serial_of self.new)) }
+        ensures sound { OnOk result (IsSound script.now self.new) }
+        ensures acks { OnOk result (HasCounted script.now self.new) }
+        ensures ends { OnOk result (AreEnds script.now self.new links.new) }
+    {
+        let before = self.book.count();
+        let acted = self.serve(alloc, script, links)?;
+        if before < self.book.count() {
+            self.count_acks(script)?;
+        }
+        Ok(acted)
+    }
+
+    /// The acknowledgements of the last batch begin to count.
+    fn count_acks(&mut self, script: &Script) -> Result<(), OutOfMemory>
+        requires nodes { length script.now.nodes ≤ 30 }
+        requires can { IsAckBook self.old.acks → CanCount script.now self.old.book.world.state (times_of self.old) (last_entries self.old.book.batches) self.old.book.ends (pruned self.old.acks) }
+        ensures counted { OnOk result (self.new ≡ counted_in script.now self.old) }
+        ensures known { IsAckBook self.old.acks }
+    {
+        let times = Times {
+            at: self.clock,
+            commit: self.clock,
+        };
+        self.acks.count_all(
+            script,
+            &self.book.world().state,
+            times,
+            self.book.last_entries(),
+            self.book.ends(),
+        )
+    }
+
+    /// What the master's turn does but for acknowledgements.
+    fn serve(
         &mut self,
         alloc: Global,
         script: &Script,
@@ -322,6 +440,7 @@ impl Replay {
         requires ends { AreEnds script.now self.old links.old }
         ensures turn { IfOk result (λ acted. after_turn (false, serial_of self.old) (master_turn script.now (serial_of self.old)) ≡ (acted, serial_of self.new)) }
         ensures sound { OnOk result (IsSound script.now self.new) }
+        ensures acks { OnOk result (self.new.acks ≡ self.old.acks) }
         ensures ends { OnOk result (AreEnds script.now self.new links.new) }
     {
         let Some(Taken { queue, waiting }) = self.waiting.take(&mut self.tasks)? else {
@@ -396,9 +515,11 @@ impl Replay {
     fn nodes_round(&mut self, script: &Script, before: bool) -> Result<bool, OutOfMemory>
         requires script { IsScript script.now }
         requires sound { IsSound script.now self.old }
+        requires acks { HasCounted script.now self.old }
         requires faults { script.now.faults ≡ [] }
         ensures round { IfOk result (λ acted. play script.now (node_turns script.now.nodes) (before, serial_of self.old) ≡ (acted, serial_of self.new)) }
         ensures sound { OnOk result (IsSound script.now self.new) }
+        ensures acks { OnOk result (HasCounted script.now self.new) }
         ensures ends { OnOk result ((links : List NodeLinkView) → AreEnds script.now self.old links → AreEnds script.now self.new links) }
     {
         let mut acted = before;
@@ -414,9 +535,11 @@ impl Replay {
     fn node_turn(&mut self, script: &Script, name: &Text) -> Result<bool, OutOfMemory>
         requires script { IsScript script.now }
         requires sound { IsSound script.now self.old }
+        requires acks { HasCounted script.now self.old }
         requires faults { script.now.faults ≡ [] }
         ensures turn { IfOk result (λ acted. after_turn (false, serial_of self.old) (node_turn script.now name.now (serial_of self.old)) ≡ (acted, serial_of self.new)) }
         ensures sound { OnOk result (IsSound script.now self.new) }
+        ensures acks { OnOk result (HasCounted script.now self.new) }
         ensures ends { OnOk result ((links : List NodeLinkView) → AreEnds script.now self.old links → AreEnds script.now self.new links) }
     {
         match number_of(script, name) {
@@ -425,13 +548,46 @@ impl Replay {
         }
     }
 
-    /// The turn of the node of a number: it applies the first commit that it has left.
+    /// The turn of the node of a number: it applies the first commit that it has left, and then answers the
+    /// acknowledgements of that version.
     fn turn_at(&mut self, script: &Script, number: usize) -> Result<bool, OutOfMemory>
+        requires script { IsScript script.now }
+        requires sound { IsSound script.now self.old }
+        requires acks { HasCounted script.now self.old }
+        requires faults { script.now.faults ≡ [] }
+        ensures turn { IfOk result (λ acted. after_turn (false, serial_of self.old) (turn_at script.now number (serial_of self.old)) ≡ (acted, serial_of self.new)) }
+        ensures sound { OnOk result (IsSound script.now self.new) }
+        ensures acks { OnOk result (HasCounted script.now self.new) }
+        ensures ends { OnOk result ((links : List NodeLinkView) → AreEnds script.now self.old links → AreEnds script.now self.new links) }
+    {
+        let acted = self.apply_at(script, number)?;
+        if acted {
+            self.answer(number);
+        }
+        Ok(acted)
+    }
+
+    /// A node answers the acknowledgements of the version that it has applied.
+    fn answer(&mut self, number: usize)
+        requires node { number < length self.old.nodes.items }
+        requires few { number < 30 }
+        requires applied { number < length self.old.acks.words.applied }
+        ensures answered { self.new ≡ answered_in self.old number }
+        ensures known { IsAckBook self.old.acks }
+    {
+        let version = self.nodes[number].state().version;
+        self.acks.settle(number as u32, version);
+    }
+
+    /// What that turn does but for acknowledgements.
+    fn apply_at(&mut self, script: &Script, number: usize) -> Result<bool, OutOfMemory>
         requires script { IsScript script.now }
         requires sound { IsSound script.now self.old }
         requires faults { script.now.faults ≡ [] }
         ensures turn { IfOk result (λ acted. after_turn (false, serial_of self.old) (turn_at script.now number (serial_of self.old)) ≡ (acted, serial_of self.new)) }
         ensures sound { OnOk result (IsSound script.now self.new) }
+        ensures acks { OnOk result (self.new.acks ≡ self.old.acks) }
+        ensures book { OnOk result (self.new.book ≡ self.old.book) }
         ensures ends { OnOk result ((links : List NodeLinkView) → AreEnds script.now self.old links → AreEnds script.now self.new links) }
     {
         apply_at(&mut self.nodes, number)
@@ -443,15 +599,18 @@ impl Replay {
     pub(crate) fn finish(self, alloc: Global, script: &Script) -> Result<Session, OutOfMemory>
         requires script { IsScript script.now }
         requires sound { IsSound script.now self }
+        requires acks { HasCounted script.now self }
+        requires faults { script.now.faults ≡ [] }
         ensures { IfOk result (λ made. made ≡ session_of script.now (course_of self)) }
     {
         let replies = collect(alloc, script, &self.tasks, &self.ats)?;
         let nodes = finish_all(alloc, self.nodes)?;
         let BookEnd { batches, last } = self.book.finish();
+        let acks = collect_acks(alloc, script, &self.tasks, &self.acks, &batches)?;
         Ok(Session {
             batches,
             replies,
-            acks: Items::new(alloc),
+            acks,
             watches: Items::new(alloc),
             reads: Items::new(alloc),
             nodes,
@@ -510,4 +669,26 @@ fn number_of(script: &Script, name: &Text) -> Option<usize>
         .as_slice()
         .iter()
         .position(|node| *name == node.name)
+}
+
+/// The number of the batch that a client is told of which awaits an acknowledgement, by how far the task is; none where it
+/// has to wait on. Where the task's batch published a version, the acknowledgement may be open.
+fn told_of(task: TaskPoll, opened: bool) -> Option<u32>
+    ensures { result ≡ poll_told opened task }
+{
+    match task {
+        TaskPoll::NotYet => None,
+        TaskPoll::Timed { .. } => Some(0),
+        TaskPoll::Ended { code } => code_told(code, opened),
+    }
+}
+
+/// The same of a task that ended in its batch.
+fn code_told(code: EndCode, opened: bool) -> Option<u32>
+    ensures { result ≡ code_polled opened code }
+{
+    match code.outcome {
+        Outcome::Ok { .. } => { if opened { None } else { Some(code.batch) } }
+        _ => Some(code.batch),
+    }
 }

@@ -1,7 +1,7 @@
 ghost use Rattle.std.specs.Prelude.{◌≡◌, ◌+◌, IfOk, OnOk};
 ghost use Rattle.scripts.specs.Built.{IsBuilt};
 ghost use Rattle.scripts.specs.Scripts.{IsScript};
-ghost use Rattle.master_run.specs.Replays.{AreEnds, IsSound, course_of, serial_of};
+ghost use Rattle.master_run.specs.Replays.{AreEnds, HasCounted, IsSound, course_of, serial_of};
 ghost use Rattle.master_run.specs.Rests.{IsAtRest};
 ghost use Rattle.master_run.specs.SerialSessions.{IsSerialSession};
 ghost use Rattle.master_run.specs.Serials.{load, performed_all, replayed, rest};
@@ -24,7 +24,8 @@ impl SerialCore {
         requires built { IsBuilt script.now }
         ensures replayed { IfOk result (λ made. made ≡ replayed script.now) }
 
-        // Its batches are a serial history, each task ended once, and the last state is the one after all batches.
+        // Its batches are a serial history, each task ended once, each acknowledgement ended as its required nodes
+        // applied the version or its time ran out, and the last state is the one after all batches.
         ensures lawful { IsSerialSession script.now (replayed script.now) }
 
         // Where the rounds end, nothing waits and no client has a step left.
@@ -46,9 +47,11 @@ fn perform_rounds(
 ) -> Result<(), OutOfMemory>
     requires script { IsScript script.now }
     requires sound { IsSound script.now replay.old }
+    requires acks { HasCounted script.now replay.old }
     requires ends { AreEnds script.now replay.old links.old }
     ensures rest { OnOk result (serial_of replay.new ≡ rest script.now (load script.now (course_of replay.old) + 1) (serial_of replay.old)) }
     ensures sound { OnOk result (IsSound script.now replay.new) }
+    ensures acks { OnOk result (HasCounted script.now replay.new) }
 {
     loop {
         if !replay.round(alloc, script, links)? {

@@ -18,5 +18,6 @@ loop-preserved c = record {
   rests = round_on c.args.script.now (serial_of c.loop.replay) (serial_of c.round.new.self) _ c.in_ok-round.field-0 c.requires.script (on_time c.args.script.now c.loop.replay c.loop.invariant.sound)
       c.in_ok-round.ensures.round c.if-not-branch.false c.loop.invariant.rests;
   sound = c.in_ok-round.ensures.sound;
+  acks = c.in_ok-round.ensures.acks;
   ends = c.in_ok-round.ensures.ends;
 }

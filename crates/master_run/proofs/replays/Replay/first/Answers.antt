@@ -1,3 +1,5 @@
+use Rattle.std.proofs.Common.{refl}
+use Rattle.master_run.proofs.AckMoving.{opened_counted}
 use Rattle.master_run.proofs.EndsKept.{opened_first, opened_links, opened_sound}
 use Rattle.master_run.proofs.replays.Replay.first.Goals as goal
 
@@ -10,3 +12,7 @@ returns-clause-sound c =
 
 pub returns-clause-links : goal.returns-clause-links
 returns-clause-links c = opened_links c.args.script.now c.in_ok-replay.replay c.world.result.now _ c.in_ok-replay.ensures.first c.world.ensures c.in_ok-links.ensures.links
+
+pub returns-clause-acks : goal.returns-clause-acks
+returns-clause-acks c =
+    opened_counted c.args.script.now c.in_ok-replay.replay (record c.in_ok-replay.replay { nodes = c.in_ok-links.field-0.appliers }) (returns-clause-first c) refl c.in_ok-replay.ensures.acks

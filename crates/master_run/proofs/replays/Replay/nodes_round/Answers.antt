@@ -15,5 +15,6 @@ loop-number-preserved c = record {
         | else-branch w ↦ acted_before c.loop-number.acted c.in_ok-turn_at.field-0 c.if-branch.acted w.if-branch.false w.acted-is
       ]);
   sound = c.in_ok-turn_at.ensures.sound;
+  acks = c.in_ok-turn_at.ensures.acks;
   ends = λ links ends. c.in_ok-turn_at.ensures.ends links (c.loop-number.invariant.ends links ends);
 }

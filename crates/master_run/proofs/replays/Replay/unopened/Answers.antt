@@ -2,13 +2,18 @@ use Rattle.std.proofs.Common.{◌∙◌, ap, map, replicate, ℕ}
 use Rattle.task_words.specs.Words.{vacant_table}
 use Rattle.master_intake.specs.Intakes.{WaitTable}
 use Rattle.master_intake.specs.Waitings.{priorities_of}
+use Rattle.master_run.specs.AckBooks.{lapses_of}
 use Rattle.master_run.specs.Appliers.{courses_of}
 use Rattle.master_run.specs.Serials.{at_clock}
+use Rattle.master_run.proofs.AckTurning.{lapses_first}
 use Rattle.master_run.proofs.Asking.{lanes_sum}
 use Rattle.master_run.proofs.replays.Replay.unopened.Goals as goal
 
 pub create-requires-2 : goal.create-requires-2
 create-requires-2 c = lanes_sum c.args.script.now c.as_slice-2.result.now c.requires (c.as_slice-2.ensures ∙ c.in_ok-lanes.ensures)
+
+pub create-requires-4 : goal.create-requires-4
+create-requires-4 c = lanes_sum c.args.script.now c.in_ok-lanes.lanes c.requires c.in_ok-lanes.ensures
 
 pub returns-clause-first : goal.returns-clause-first
 returns-clause-first c =
@@ -22,6 +27,7 @@ returns-clause-first c =
       positions = c.in_ok-positions.ensures i;
       awaited = c.in_ok-awaited.ensures i;
       nodes = ap courses_of c.new.ensures.items i;
+      lapses = (ap lapses_of c.in_ok-acks.ensures ∙ lapses_first c.in_ok-lanes.lanes c.len-2.result) i;
     })
 
 pub returns-clause-priorities : goal.returns-clause-priorities

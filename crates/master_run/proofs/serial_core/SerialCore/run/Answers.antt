@@ -2,11 +2,15 @@ use Rattle.std.proofs.Common.{◌∙◌}
 use Rattle.master_run.specs.Replays.{serial_of}
 use Rattle.master_run.proofs.EndsKept.{begins_with_ends}
 use Rattle.master_run.proofs.Finishing.{comes_to_rest, is_serial, replayed_if}
+use Rattle.master_run.proofs.Taken.{faults_built}
 use Rattle.master_run.proofs.serial_core.SerialCore.run.Goals as goal
 
 pub follow-requires-clause-ends : goal.follow-requires-clause-ends
 follow-requires-clause-ends c =
     begins_with_ends c.args.script.now c.in_ok-replay.replay _ c.requires.built c.in_ok-replay.ensures.first c.in_ok-replay.ensures.sound (c.deref_mut.ensures.value ∙ c.in_ok-replay.ensures.links)
+
+pub finish-requires-clause-faults : goal.finish-requires-clause-faults
+finish-requires-clause-faults c = faults_built c.args.script.now c.requires.built
 
 pub returns-clause-replayed : goal.returns-clause-replayed
 returns-clause-replayed c =
