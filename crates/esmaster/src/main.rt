@@ -1,6 +1,8 @@
 //! The program: it reads a script, performs it, and writes the report of what came of it.
 #![tactic(auto)]
 
+#[cfg(test)]
+mod ack_rows;
 mod answers;
 #[cfg(test)]
 mod command_rows;

@@ -269,12 +269,12 @@ bad_shape version version | {"version":1,"version":2}
 bad_shape clients[0][0].do value | {"version":1,"cluster":"c","nodes":[{"name":"a"}],"queues":[{"name":"q","executor":"create_index"}],"clients":[[{"do":"submit","do":"wait","queue":"q"}]]}
 bad_shape clients[0][0].pred.index type | {"version":1,"cluster":"c","nodes":[{"name":"a"}],"queues":[],"clients":[[{"do":"watch","node":"a","pred":{"index":"i","index":1},"timeout":1}]]}
 bad_shape version version | {"\u0076ersion":2}
--- right by the walk, and not built yet: an await for an acknowledgement or a watch
-bad_shape $ not_built | {"version":1,"cluster":"c","nodes":[{"name":"a"}],"queues":[{"name":"q","executor":"create_index"}],"clients":[[{"do":"submit","queue":"q","task":{"index":"i"},"ack":{"nodes":"all"}},{"do":"await","step":0,"for":"ack"}]]}
+-- an await for an acknowledgement; right by the walk, and not built yet: an await for a watch
+accepted | {"version":1,"cluster":"c","nodes":[{"name":"a"}],"queues":[{"name":"q","executor":"create_index"}],"clients":[[{"do":"submit","queue":"q","task":{"index":"i"},"ack":{"nodes":"all"}},{"do":"await","step":0,"for":"ack"}]]}
 bad_shape $ not_built | {"version":1,"cluster":"c","nodes":[{"name":"a"}],"queues":[],"clients":[[{"do":"watch","node":"a","pred":{"index":"i"},"timeout":1},{"do":"await","step":0,"for":"watch"}]]}
 -- acknowledgements
-bad_shape $ not_built | {"version":1,"cluster":"c","nodes":[{"name":"a"}],"queues":[{"name":"q","executor":"create_index"}],"clients":[[{"do":"submit","queue":"q","task":{"index":"i"},"ack":{"nodes":"all"}}]]}
-bad_shape $ not_built | {"version":1,"cluster":"c","nodes":[{"name":"a"},{"name":"b"}],"queues":[{"name":"q","executor":"create_index"}],"clients":[[{"do":"submit","queue":"q","task":{"index":"i"},"timeout":0,"ack":{"nodes":["b","a"],"timeout":4294967295}}]]}
+accepted | {"version":1,"cluster":"c","nodes":[{"name":"a"}],"queues":[{"name":"q","executor":"create_index"}],"clients":[[{"do":"submit","queue":"q","task":{"index":"i"},"ack":{"nodes":"all"}}]]}
+accepted | {"version":1,"cluster":"c","nodes":[{"name":"a"},{"name":"b"}],"queues":[{"name":"q","executor":"create_index"}],"clients":[[{"do":"submit","queue":"q","task":{"index":"i"},"timeout":0,"ack":{"nodes":["b","a"],"timeout":4294967295}}]]}
 -- watch, next, read and close
 bad_shape $ not_built | {"version":1,"cluster":"c","nodes":[{"name":"a"}],"queues":[],"clients":[[{"do":"watch","node":"a","pred":{"index":"i"},"timeout":1}]]}
 bad_shape $ not_built | {"version":1,"cluster":"c","nodes":[{"name":"a"}],"queues":[],"clients":[[{"do":"watch","node":"a","pred":{"not":{"all":[{"any":[]},{"version":18446744073709551615},{"setting":{"key":"","value":""}},{"node":"?"}]}},"then":[{"alias":"x"},{"alias":"x"},{"alias":"x"},{"alias":"x"},{"alias":"x"},{"alias":"x"},{"alias":"x"},{"alias":"x"}],"timeout":4294967295}]]}

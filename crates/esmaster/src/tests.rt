@@ -1,3 +1,4 @@
+use crate::ack_rows::ACKS;
 use crate::command_rows::{BASE, ROWS, Row};
 use crate::commands::esmaster;
 use crate::exits::Exit;
@@ -145,4 +146,16 @@ fn each_end_has_its_status(rt: HostRuntime) {
         assert_eq!(rt; end.status(), status);
         status = status.wrapping_add(1);
     }
+}
+
+#[test]
+fn each_script_of_acknowledgements_ends_and_writes_as_its_row_says(
+    rt: HostRuntime,
+) -> Result<(), Fail> {
+    for row in ACKS {
+        let (exit, written) = ended(&rt, rt.alloc(), &row)?;
+        assert_eq!(rt; exit.status(), row.status, "at {written}");
+        assert!(rt; fits(written.as_str(), row.written), "{written}");
+    }
+    Ok(())
 }
