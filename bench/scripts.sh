@@ -74,6 +74,18 @@ for count in (125, 250, 500):
     publications(f"publish_{count}", 30, settings(count))
 for nodes in (7, 14, 28):
     publications(f"nodes_{nodes}", nodes, settings(500))
+# n indices created one by one, each acknowledged by every node before the next one: by their number on 30 nodes, and 500
+# of them by the number of nodes
+def acknowledged(name, nodes, count):
+    steps = []
+    for k in range(count):
+        steps.append({**submit("make", index=f"index-{k:04}"), "ack": {"nodes": "all", "timeout": 30000}})
+        steps.append({"do": "await", "step": 2 * k, "for": "ack"})
+    publications(name, nodes, steps)
+for count in (125, 250, 500):
+    acknowledged(f"acks_{count}", 30, count)
+for nodes in (7, 14, 28):
+    acknowledged(f"acknodes_{nodes}", nodes, 500)
 # n indices are created on four nodes, alone, and with 700 changes of the last of them behind
 for count in (175, 350, 700):
     made = [submit("make", index=f"index-{k:04}") for k in range(count)]
@@ -105,6 +117,7 @@ names="steps_read steps_json_alone batches_707 batches_1414 batches_2828"
 names="$names together_707 together_1414 together_2828 clients_500 clients_1000 clients_2000"
 for kind in replicas unchanged aliases; do names="$names ${kind}_350 ${kind}_700 ${kind}_1400"; done
 names="$names publish_125 publish_250 publish_500 nodes_7 nodes_14 nodes_28"
+names="$names acks_125 acks_250 acks_500 acknodes_7 acknodes_14 acknodes_28"
 for kind in made among; do names="$names ${kind}_175 ${kind}_350 ${kind}_700"; done
 for name in $names; do
     wanted "$name" "$@" || continue
