@@ -1,0 +1,2 @@
+-- Lemmas about the small types of these tests.
+pub mod Boards

@@ -1,0 +1,2 @@
+-- What the small types of these tests keep.
+pub mod Boards
